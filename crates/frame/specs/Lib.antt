@@ -1,0 +1,6 @@
+pub mod Pick
+pub mod Refusals
+pub mod Bytes
+pub mod Frame
+pub mod Builder
+pub mod Reader

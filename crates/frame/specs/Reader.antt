@@ -1,0 +1,39 @@
+-- Section 3, reading a whole frame: empty SHORT; START; one byte only SHORT; LENGTH; fewer than Length + 2 SHORT; more TAIL; SUM; KIND.
+-- Assumes nothing.
+use Prim.Native.Nat.{ℕ, _+_, _-_}
+use mathlib.Core.List.{List}
+use lib.Dec.{ltb, eqb}
+use lib.ListN.{length, getD, take, drop}
+use Rattle.frame.specs.Pick.{pick}
+use Rattle.frame.specs.Frame.{checksum}
+use Rattle.frame.specs.declared.refusal.Refusal.the-variants as refusal
+use Rattle.frame.specs.declared.reader.Reading.{Reading}
+use Rattle.frame.specs.declared.reader.Reading.the-variants.{Refused, Parts}
+
+-- of bytes that are as many as their Length says: SUM, KIND, and the parts
+abbrev pub measuredOf : List ℕ → ℕ → Reading
+measuredOf bytes len =
+    pick (eqb (checksum (take len (drop 1 bytes))) (getD bytes (len + 1) 0))
+    (pick (ltb 1 (getD bytes 2 0)) (Refused refusal.Kind)
+    (Parts (getD bytes 2 0) (getD bytes 3 0) (len - 3)))
+    (Refused refusal.Sum)
+
+-- of bytes that begin with 01 and a Length
+abbrev pub sizedOf : List ℕ → ℕ → Reading
+sizedOf bytes len =
+    pick (ltb len 3) (Refused refusal.Length)
+    (pick (ltb (length bytes) (len + 2)) (Refused refusal.Short)
+    (pick (ltb (len + 2) (length bytes)) (Refused refusal.Tail)
+    (measuredOf bytes len)))
+
+abbrev pub readingOf : List ℕ → Reading
+readingOf bytes =
+    pick (eqb (length bytes) 0) (Refused refusal.Short)
+    (pick (eqb (getD bytes 0 0) 1)
+    (pick (eqb (length bytes) 1) (Refused refusal.Short)
+    (sizedOf bytes (getD bytes 1 0)))
+    (Refused refusal.Start))
+
+-- the parameters of a frame that reads
+abbrev pub parametersOf : List ℕ → ℕ → List ℕ
+parametersOf bytes n = take n (drop 4 bytes)
