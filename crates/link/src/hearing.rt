@@ -1,4 +1,12 @@
 // Reception (section 4): hearing turns a byte or a tick into an event. It knows nothing of sending.
+use crate::state::Link;
+ghost use mathlib.Core.Path.{_≡_};
+ghost use mathlib.Core.Bool.{Bool};
+ghost use Prim.Native.Nat.{_+_, _<_, _≤_};
+ghost use lib.Dec.{eqb};
+ghost use Rattle.frame.specs.Pick.{pick};
+ghost use Rattle.link.specs.Hearing as spec;
+ghost use Rattle.link.specs.declared.hearing.Hearing.the-variants.{Head, Body};
 
 // A half-received frame behind its Length, in numbers; its bytes are kept in the link's body.
 pub struct Partial {
@@ -53,4 +61,203 @@ pub enum Event {
 pub struct Heard {
     pub hearing: Hearing,
     pub event: Event,
+}
+
+// While hunting: 01 begins a frame; 06, 15, 18 go to the sender; other bytes are skipped.
+fn hunted(b: u8) -> Heard
+    ensures { λ r. ⌜ r ≡ spec.hunted b ⌝ }
+{
+    if b == 1 {
+        return Heard {
+            hearing: Hearing::Head { clock: 0 },
+            event: Event::Inside,
+        };
+    }
+    if b == 6 {
+        return Heard {
+            hearing: Hearing::Hunting,
+            event: Event::Alone(Single::Ack),
+        };
+    }
+    if b == 21 {
+        return Heard {
+            hearing: Hearing::Hunting,
+            event: Event::Alone(Single::Nak),
+        };
+    }
+    if b == 24 {
+        return Heard {
+            hearing: Hearing::Hunting,
+            event: Event::Alone(Single::Can),
+        };
+    }
+    Heard {
+        hearing: Hearing::Hunting,
+        event: Event::Skipped,
+    }
+}
+
+// Length: below 3 it is bad, else that many body bytes less one follow.
+fn measured(clock: u16, b: u8) -> Heard
+    ensures { λ r. ⌜ r ≡ spec.measured clock b ⌝ }
+{
+    if b < 3 {
+        return Heard {
+            hearing: Hearing::Hunting,
+            event: Event::Ended(End::BadLength),
+        };
+    }
+    let p = Partial {
+        clock: clock,
+        size: b - 1,
+        at: 0,
+        sum: 255 ^ b,
+        kind: 0,
+        command: 0,
+    };
+    Heard {
+        hearing: Hearing::Body(p),
+        event: Event::Inside,
+    }
+}
+
+// The byte that stands at its place, or what was there.
+fn placed(at: u8, place: u8, b: u8, old: u8) -> u8
+    ensures { λ r. ⌜ r ≡ pick (eqb at place) b old ⌝ }
+{
+    if at == place {
+        return b;
+    }
+    old
+}
+
+// One more body byte. The clock stays: only ticks move it.
+fn more(p: Partial, b: u8) -> Partial
+    requires { ⌜ p .at < 255 ⌝ }
+    ensures { λ r. ⌜ r ≡ spec.more p b ⌝ }
+{
+    let kind = placed(p.at, 0, b, p.kind);
+    let command = placed(p.at, 1, b, p.command);
+    Partial {
+        clock: p.clock,
+        size: p.size,
+        at: p.at + 1,
+        sum: p.sum ^ b,
+        kind: kind,
+        command: command,
+    }
+}
+
+// A right checksum, by the frame's Type.
+fn ended(p: Partial) -> End
+    ensures { λ r. ⌜ r ≡ spec.ended p ⌝ }
+{
+    let kind = p.kind;
+    if kind == 0 {
+        return End::Request { size: p.size };
+    }
+    if kind == 1 {
+        return End::Response {
+            size: p.size,
+            command: p.command,
+        };
+    }
+    End::Reserved
+}
+
+// A body byte, or the checksum behind the last. No byte has a special meaning here.
+fn followed(p: Partial, b: u8) -> Heard
+    ensures { λ r. ⌜ r ≡ spec.followed p b ⌝ }
+{
+    let at = p.at;
+    let size = p.size;
+    let sum = p.sum;
+    if at < size {
+        let next = more(p, b);
+        return Heard {
+            hearing: Hearing::Body(next),
+            event: Event::Kept { at: at },
+        };
+    }
+    if b == sum {
+        let end = ended(p);
+        return Heard {
+            hearing: Hearing::Hunting,
+            event: Event::Ended(end),
+        };
+    }
+    Heard {
+        hearing: Hearing::Hunting,
+        event: Event::Ended(End::BadSum),
+    }
+}
+
+// One received byte.
+pub fn hear_byte(hearing: Hearing, b: u8) -> Heard
+    ensures { λ r. ⌜ r ≡ spec.heardByte b hearing ⌝ }
+{
+    match hearing {
+        Hearing::Hunting => hunted(b),
+        Hearing::Head { clock } => measured(clock, b),
+        Hearing::Body(p) => followed(p, b),
+    }
+}
+
+fn head_tick(clock: u16) -> Heard
+    ensures { λ r. ⌜ r ≡ spec.clocked (clock + 1) (Head (clock + 1)) ⌝ }
+{
+    let limit = Link::FRAME_TIME;
+    if (clock as u32) < limit.0 {
+        return Heard {
+            hearing: Hearing::Head { clock: clock + 1 },
+            event: Event::TickInside,
+        };
+    }
+    Heard {
+        hearing: Hearing::Hunting,
+        event: Event::Aborted,
+    }
+}
+
+fn body_tick(p: Partial) -> Heard
+    ensures { λ r. ⌜ r ≡ spec.clocked (p .clock + 1) (Body (spec.later p)) ⌝ }
+{
+    let clock = p.clock;
+    let limit = Link::FRAME_TIME;
+    if (clock as u32) < limit.0 {
+        let mut next = p;
+        next.clock = clock + 1;
+        return Heard {
+            hearing: Hearing::Body(next),
+            event: Event::TickInside,
+        };
+    }
+    Heard {
+        hearing: Hearing::Hunting,
+        event: Event::Aborted,
+    }
+}
+
+// One tick: inside a frame it adds 1 to the clock, and the 1,501st aborts.
+pub fn hear_tick(hearing: Hearing) -> Heard
+    ensures { λ r. ⌜ r ≡ spec.heardTick hearing ⌝ }
+{
+    match hearing {
+        Hearing::Hunting => Heard {
+            hearing: Hearing::Hunting,
+            event: Event::TickHunting,
+        },
+        Hearing::Head { clock } => head_tick(clock),
+        Hearing::Body(p) => body_tick(p),
+    }
+}
+
+pub fn is_hunting(hearing: Hearing) -> bool
+    ensures { λ r. ⌜ r ≡ spec.isHunting hearing ⌝ }
+{
+    match hearing {
+        Hearing::Hunting => true,
+        Hearing::Head { clock: _ } => false,
+        Hearing::Body(_) => false,
+    }
 }

@@ -1,5 +1,15 @@
 // The report (section 7): four parts, each a case with its own data, and the numbers of bytes.
+use crate::hearing::End;
+use crate::hearing::Event;
+use crate::job::Job;
+use crate::job::awaits;
 use units::Millis;
+ghost use mathlib.Core.Path.{_≡_};
+ghost use Rattle.frame.specs.Pick.{pick};
+ghost use Rattle.link.specs.Report as spec;
+ghost use Rattle.link.specs.declared.report.Reply.the-variants.{Silent, Ack};
+ghost use Rattle.link.specs.declared.report.Reception.the-variants as reception;
+ghost use Rattle.link.specs.Job as jobs;
 
 pub enum Reception {
     Nothing,
@@ -69,4 +79,167 @@ pub struct Said {
 pub struct Sums {
     pub bad: u8,
     pub reset: Reset,
+}
+
+fn saying(reception: Reception, reply: Reply, up: u8) -> Said
+    ensures { λ r. ⌜ r ≡ spec.said reception reply up ⌝ }
+{
+    Said {
+        reception: reception,
+        reply: reply,
+        up: up,
+    }
+}
+
+// A response is handed up like any frame; one that no session awaits is marked stray.
+fn said_response(size: u8, command: u8, job: Job) -> Said
+    ensures { λ r. ⌜ r ≡ spec.said (pick (jobs.awaits command job) reception.Frame reception.StrayResponse) Ack size ⌝ }
+{
+    if awaits(command, job) {
+        return saying(Reception::Frame, Reply::Ack, size);
+    }
+    saying(Reception::StrayResponse, Reply::Ack, size)
+}
+
+fn said_end(end: End, job: Job) -> Said
+    ensures { λ r. ⌜ r ≡ spec.saidEnd end job ⌝ }
+{
+    match end {
+        End::BadLength => saying(Reception::BadLength, Reply::Silent, 0),
+        End::BadSum => saying(Reception::BadSum, Reply::Nak, 0),
+        End::Reserved => saying(Reception::Reserved, Reply::Ack, 0),
+        End::Request { size } => saying(Reception::Frame, Reply::Ack, size),
+        End::Response { size, command } => said_response(size, command, job),
+    }
+}
+
+// What reception says of an event, the byte that it puts out, and how much it hands up.
+pub fn said_on(event: Event, job: Job) -> Said
+    ensures { λ r. ⌜ r ≡ spec.saidOn event job ⌝ }
+{
+    match event {
+        Event::Inside => saying(Reception::Nothing, Reply::Silent, 0),
+        Event::Kept { at: _ } => saying(Reception::Nothing, Reply::Silent, 0),
+        Event::Skipped => saying(Reception::Skipped, Reply::Silent, 0),
+        Event::Alone(_) => saying(Reception::Nothing, Reply::Silent, 0),
+        Event::Ended(end) => said_end(end, job),
+        Event::TickHunting => saying(Reception::Nothing, Reply::Silent, 0),
+        Event::TickInside => saying(Reception::Nothing, Reply::Silent, 0),
+        Event::Aborted => saying(Reception::Abort, Reply::Silent, 0),
+    }
+}
+
+fn run_of(bad: u8, reset: Reset) -> Sums
+    ensures { λ r. ⌜ r ≡ spec.sums bad reset ⌝ }
+{
+    Sums {
+        bad: bad,
+        reset: reset,
+    }
+}
+
+// One bad sum more: the third indicates a reset.
+fn one_more(bad: u8) -> Sums
+    ensures { λ r. ⌜ r ≡ spec.oneMore bad ⌝ }
+{
+    if bad < 2 {
+        return run_of(bad + 1, Reset::Nothing);
+    }
+    run_of(0, Reset::Sums)
+}
+
+fn sums_end(end: End, bad: u8) -> Sums
+    ensures { λ r. ⌜ r ≡ spec.sumsEnd end bad ⌝ }
+{
+    match end {
+        End::BadLength => run_of(bad, Reset::Nothing),
+        End::BadSum => one_more(bad),
+        End::Reserved => run_of(0, Reset::Nothing),
+        End::Request { size: _ } => run_of(0, Reset::Nothing),
+        End::Response {
+            size: _,
+            command: _,
+        } => run_of(0, Reset::Nothing),
+    }
+}
+
+// The run of bad sums after an event.
+pub fn sums_on(event: Event, bad: u8) -> Sums
+    ensures { λ r. ⌜ r ≡ spec.sumsOn event bad ⌝ }
+{
+    match event {
+        Event::Inside => run_of(bad, Reset::Nothing),
+        Event::Kept { at: _ } => run_of(bad, Reset::Nothing),
+        Event::Skipped => run_of(bad, Reset::Nothing),
+        Event::Alone(_) => run_of(bad, Reset::Nothing),
+        Event::Ended(end) => sums_end(end, bad),
+        Event::TickHunting => run_of(bad, Reset::Nothing),
+        Event::TickInside => run_of(bad, Reset::Nothing),
+        Event::Aborted => run_of(bad, Reset::Nothing),
+    }
+}
+
+// The reset of a call: the bad sums' or the sender's.
+pub fn either(sums: Reset, sender: Reset) -> Reset
+    ensures { λ r. ⌜ r ≡ spec.either sums sender ⌝ }
+{
+    match sums {
+        Reset::Nothing => sender,
+        Reset::Sums => Reset::Sums,
+        Reset::Delivery => Reset::Delivery,
+    }
+}
+
+// Whether a part says more than "nothing" or "skipped".
+pub fn news_reception(part: Reception) -> bool
+    ensures { λ r. ⌜ r ≡ spec.newsReception part ⌝ }
+{
+    match part {
+        Reception::Nothing => false,
+        Reception::Skipped => false,
+        Reception::BadLength => true,
+        Reception::Frame => true,
+        Reception::Reserved => true,
+        Reception::BadSum => true,
+        Reception::Abort => true,
+        Reception::StrayResponse => true,
+    }
+}
+
+pub fn news_sending(part: Sending) -> bool
+    ensures { λ r. ⌜ r ≡ spec.newsSending part ⌝ }
+{
+    match part {
+        Sending::Nothing => false,
+        Sending::Stray => true,
+        Sending::Due => true,
+        Sending::Copy(_) => true,
+        Sending::BackingOff(_) => true,
+        Sending::Acknowledged(_) => true,
+        Sending::Failed(_) => true,
+        Sending::Abandoned => true,
+    }
+}
+
+pub fn news_session(part: Session) -> bool
+    ensures { λ r. ⌜ r ≡ spec.newsSession part ⌝ }
+{
+    match part {
+        Session::Nothing => false,
+        Session::Waiting => true,
+        Session::Response(_) => true,
+        Session::NoResponse(_) => true,
+        Session::NotSent(_) => true,
+        Session::Abandoned => true,
+    }
+}
+
+pub fn news_reset(part: Reset) -> bool
+    ensures { λ r. ⌜ r ≡ spec.newsReset part ⌝ }
+{
+    match part {
+        Reset::Nothing => false,
+        Reset::Sums => true,
+        Reset::Delivery => true,
+    }
 }
