@@ -2,11 +2,12 @@
 -- Assumes nothing.
 use mathlib.Core.Path.{_≡_, refl}
 use mathlib.Core.List.{List, [], _∷_, _++_}
-use Prim.Native.Nat.{ℕ, _≤_, _<_, _+_}
+use Prim.Native.Nat.{ℕ, suc, _≤_, _<_, _+_}
 use native.Mathlib.Numerals.{add-one}
+use native.Mathlib.Omega.{arith}
 use lib.ListN.{length, drop, getD, drop-of-length-le}
 use lib.Seq.{drop-cons}
-use lib.Bits.{bitXor}
+use lib.Bits.{bitXor, xor-lt}
 use Rattle.frame.specs.Bytes.{xorAll}
 
 pub fold-end : (a i : ℕ) (s : List ℕ) → length s ≤ i → xorAll a (drop i s) ≡ a
@@ -21,3 +22,8 @@ pub fold-append : (a : ℕ) (s t : List ℕ) → xorAll a (s ++ t) ≡ xorAll (x
 unfolding xorAll
 fold-append a [] t = refl
 fold-append a (b ∷ s) t = fold-append (bitXor a b) s t
+
+pub fold-below : (a : ℕ) (s : List ℕ) → a < 256 → ((i : ℕ) → i < length s → getD s i 0 < 256) → xorAll a s < 256
+unfolding xorAll
+fold-below a [] h below = h
+fold-below a (b ∷ s) h below = fold-below (bitXor a b) s (xor-lt 8 a b h (below 0 (omega arith))) (λ i l. below (suc i) (omega arith))

@@ -14,7 +14,7 @@ use native.Mathlib.Numerals.{add-one, one-add}
 use native.Mathlib.Nat.{zero-add, le-of-lt, min-eq-left, min-eq-right, not-suc-le-zero}
 use native.Mathlib.Omega.{arith}
 use lib.Dec.{leb}
-use lib.ListN.{length, take, drop, set, length-append, length-take, length-drop}
+use lib.ListN.{length, take, set, length-append, length-take, length-drop}
 use lib.Seq.{paste, take-all, take-append-seam, drop-append-add, drop-drop, length-take-le, drop-cons, set-append-seam, append-snoc, take-length}
 use borrow.Author.Tests.{leb-true, leb-false, le-ltb}
 use Rattle.frame.specs.Bytes.{over, Laid}

@@ -4,7 +4,7 @@ use native.Mathlib.Omega.{arith}
 use lib.ListN.{length, length-set}
 use borrow.Author.Needs.{needs}
 use denote.Ref.{now}
-use Prim.Native.Nat.{ℕ, _+_, _≤_}
+use Prim.Native.Nat.{_+_, _≤_}
 use Rattle.frame.proofs.Framing.{laid-length, laid-over, framed-over}
 use Rattle.frame.proofs.builder.write.Statement.{statement}
 use Rattle.frame.proofs.builder.write.Tie as tie

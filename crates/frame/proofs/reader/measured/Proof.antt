@@ -1,6 +1,5 @@
 -- `frame::reader::measured` meets its contract: each answer is the one that its tests pick; what is folded is the Length byte to the last parameter.
 -- Assumes nothing.
-use native.Mathlib.Omega.{arith}
 use borrow.Author.Tests.{lt-ltb, le-ltb, eq-eqb, ne-eqb}
 use borrow.Author.Needs.{needs}
 use mathlib.Core.Path.{_≡_}
