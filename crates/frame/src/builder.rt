@@ -3,7 +3,11 @@ use crate::bytes::fold;
 use crate::bytes::lay;
 use crate::refusal::Refusal;
 ghost use mathlib.Core.Path.{_≡_};
+ghost use Prim.Native.Nat.{_+_, _≤_};
+ghost use lib.ListN.{length};
 ghost use Rattle.frame.specs.Builder.{Build};
+ghost use Rattle.frame.specs.Bytes.{over};
+ghost use Rattle.frame.specs.Frame.{frameOf};
 
 pub enum Built {
     Refused(Refusal),
@@ -11,7 +15,22 @@ pub enum Built {
     Frame(u16),
 }
 
-// Writes the frame of these parts into the lent bytes. Bytes beyond it stay; a refusal leaves all of them.
+// Writes the frame of these parts over the first of the lent bytes, then walks it again for the checksum.
+fn write(kind: u8, command: u8, parameters: &[u8], lent: &mut [u8])
+    requires { ⌜ (length (now parameters) ≤ 252) × (length (now parameters) + 5 ≤ length (now lent)) ⌝ }
+    ensures { λ _. ⌜ now (lent .exit) ≡ over (frameOf kind command (now (parameters .entry))) (now (lent .entry)) ⌝ }
+{
+    let n = parameters.len();
+    lent[0] = 1;
+    lent[1] = (n + 3) as u8;
+    lent[2] = kind;
+    lent[3] = command;
+    lay(parameters, n, lent, 4);
+    let sum = fold(255, &lent[1..n + 4]);
+    lent[n + 4] = sum;
+}
+
+// Builds the frame of these parts in the lent bytes. Bytes beyond it stay; a refusal leaves all of them.
 pub fn build(kind: u8, command: u8, parameters: &[u8], lent: &mut [u8]) -> Built
     ensures { λ r. ⌜ Build kind command (now (parameters .entry)) (now (lent .entry)) r (now (lent .exit)) ⌝ }
 {
@@ -25,12 +44,6 @@ pub fn build(kind: u8, command: u8, parameters: &[u8], lent: &mut [u8]) -> Built
     if lent.len() < n + 5 {
         return Built::Refused(Refusal::Room);
     }
-    lent[0] = 1;
-    lent[1] = (n + 3) as u8;
-    lent[2] = kind;
-    lent[3] = command;
-    lay(parameters, n, lent, 4);
-    let sum = fold(255, &lent[1..n + 4]);
-    lent[n + 4] = sum;
+    write(kind, command, parameters, lent);
     Built::Frame((n + 5) as u16)
 }

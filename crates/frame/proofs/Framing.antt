@@ -1,0 +1,57 @@
+-- What `write` stores, one store behind the other, is the frame over the lent bytes.
+-- Assumes nothing.
+use mathlib.Core.Path.{_≡_, ap, _∙_}
+use mathlib.Core.Bool.{Bool}
+use mathlib.Core.List.{List, [], _∷_, _++_}
+use Prim.Native.Nat.{ℕ, _+_, _-_, _≤_, _<_}
+use native.Mathlib.Nat.{le-refl}
+use native.Mathlib.Omega.{arith}
+use lib.ListN.{length, take, drop, set, length-set}
+use lib.Seq.{paste, take-at, take-length}
+use Rattle.frame.specs.Bytes.{over, xorAll, Laid}
+use Rattle.frame.specs.Frame.{counted, checksum, frameOf}
+use Rattle.frame.proofs.Over.{over-length, put-byte, put-bytes, laid-in}
+
+-- four stores at the front
+abbrev pub headed : List ℕ → ℕ → ℕ → ℕ → ℕ → List ℕ
+headed d a b k m = set (set (set (set d 0 a) 1 b) 2 k) 3 m
+
+pub head-over : (d : List ℕ) (a b k m : ℕ) → 4 ≤ length d → headed d a b k m ≡ over (a ∷ b ∷ k ∷ m ∷ []) d
+head-over d a b k m h =
+    let h₁ : 0 < length d = omega arith in
+    let h₂ : 1 < length d = omega arith in
+    let h₃ : 2 < length d = omega arith in
+    ap (λ (l : List ℕ). set (set (set l 1 b) 2 k) 3 m) (put-byte [] d a h₁)
+    ∙ ap (λ (l : List ℕ). set (set l 2 k) 3 m) (put-byte (a ∷ []) d b h₂)
+    ∙ ap (λ (l : List ℕ). set l 3 m) (put-byte (a ∷ b ∷ []) d k h₃)
+    ∙ put-byte (a ∷ b ∷ k ∷ []) d m h
+
+-- the parameters behind them
+pub laid-over : (d ps : List ℕ) (kind command : ℕ) {r : Bool} {d′ : List ℕ} → length ps + 5 ≤ length d
+    → Laid ps (length ps) (headed d 1 (length ps + 3) kind command) 4 r d′ → d′ ≡ over (1 ∷ counted kind command ps) d
+laid-over d ps kind command h laid =
+    laid-in (le-refl (length ps)) (simp length-set (omega arith)) laid
+    ∙ ap (λ (l : List ℕ). paste l 4 ps (length ps)) (head-over d 1 (length ps + 3) kind command (omega arith))
+    ∙ put-bytes (1 ∷ (length ps + 3) ∷ kind ∷ command ∷ []) ps d (length ps) (le-refl (length ps))
+    ∙ ap (λ (l : List ℕ). over (1 ∷ (length ps + 3) ∷ kind ∷ command ∷ l) d) (take-length ps)
+
+pub laid-length : (d ps : List ℕ) (kind command : ℕ) {r : Bool} {d′ : List ℕ} → length ps + 5 ≤ length d
+    → Laid ps (length ps) (headed d 1 (length ps + 3) kind command) 4 r d′ → length d′ ≡ length d
+laid-length d ps kind command h laid = ap length (laid-over d ps kind command h laid) ∙ over-length (1 ∷ counted kind command ps) d (omega arith)
+
+-- and the checksum of what stands there
+pub framed-over : (d ps : List ℕ) (kind command v : ℕ) {d′ : List ℕ} → length ps + 5 ≤ length d
+    → d′ ≡ over (1 ∷ counted kind command ps) d
+    → v ≡ xorAll 255 (take (length ps + 4 - 1) (drop 1 d′))
+    → set d′ (length ps + 4) v ≡ over (frameOf kind command ps) d
+unfolding frameOf
+framed-over d ps kind command v {d′} h e f =
+    let n : length (counted kind command ps) ≡ length ps + 4 - 1 = omega arith in
+    let s : v ≡ checksum (counted kind command ps) =
+    f ∙ ap (λ (l : List ℕ). xorAll 255 (take (length ps + 4 - 1) (drop 1 l))) e
+    ∙ ap (λ (l : List ℕ). xorAll 255 l) (take-at (counted kind command ps) (drop (length (1 ∷ counted kind command ps)) d) (length ps + 4 - 1) n) in
+    let at : length ps + 4 ≡ length (1 ∷ counted kind command ps) = omega arith in
+    ap (λ (l : List ℕ). set l (length ps + 4) v) e
+    ∙ ap (λ (i : ℕ). set (over (1 ∷ counted kind command ps) d) i v) at
+    ∙ put-byte (1 ∷ counted kind command ps) d v (omega arith)
+    ∙ ap (λ (x : ℕ). over ((1 ∷ counted kind command ps) ++ (x ∷ [])) d) s

@@ -1,0 +1,15 @@
+-- From what `pick` gave back to the test: a case that it cannot have given tells which one it did.
+-- Assumes nothing.
+use mathlib.Core.Path.{_≡_, refl}
+use mathlib.Core.Bool.{Bool, true, false}
+use Rattle.frame.specs.Pick.{pick}
+
+-- not the second, so the first
+pub picked-first : {A : Type 0} (t : Bool) {x y z : A} → (y ≡ z → ⊥) → pick t x y ≡ z → (t ≡ true) × (x ≡ z)
+picked-first true n e = (refl, e)
+picked-first false n e = absurd (n e)
+
+-- not the first, so the second
+pub picked-second : {A : Type 0} (t : Bool) {x y z : A} → (x ≡ z → ⊥) → pick t x y ≡ z → (t ≡ false) × (y ≡ z)
+picked-second true n e = absurd (n e)
+picked-second false n e = (refl, e)
