@@ -14,6 +14,7 @@ use Rattle.frame.specs.declared.refusal.Refusal.the-variants.{Room, Busy, Kind,
 use Rattle.link.specs.Rules.{Rules}
 use Rattle.link.specs.Job.{isOpen}
 use Rattle.link.specs.Step.{Out, Taken, reportOf}
+use Rattle.link.specs.declared.report.Report.{Report}
 use Rattle.link.specs.declared.state.Link.{Link}
 use Rattle.link.specs.declared.calls.Answer.{Answer}
 use Rattle.link.specs.declared.calls.Answer.the-variants as answer
@@ -30,9 +31,9 @@ pub data Checked : Type 0 where
 abbrev pub check : Bool → Refusal → Checked → Checked
 check met refusal rest = pick met (refuses refusal) rest
 
--- ROOM first, needing 258 bytes for the line and 254 for the frame handed up.
-abbrev pub roomChecks : ℕ → ℕ → Checked → Checked
-roomChecks line up rest = check (ltb line 258) Room (check (ltb up 254) Room rest)
+-- ROOM first, needing 258 bytes for the line and 254 for the frame handed up; then the call's own checks.
+abbrev pub checks : List ℕ → List ℕ → Checked → Checked
+checks line up own = check (ltb (length line) 258) Room (check (ltb (length up) 254) Room own)
 
 -- Send goes on with BUSY, KIND, LONG; session, which is always REQ, with BUSY, LONG.
 abbrev pub sendChecks : Link → ℕ → ℕ → Checked
@@ -55,14 +56,25 @@ abbrev pub left : Checked → List ℕ → List ℕ → List ℕ
 left passes bytes lent = over bytes lent
 left (refuses k) bytes lent = lent
 
--- the promise of a link call with these checks, that gives o on the link l
-pub record Call (c : Checked) (o : Out) (l : Link) (line up : List ℕ) (r : Answered) (line′ up′ : List ℕ) : Type 0 where
-  pub answer : r ≡ answered c o l
-  pub line-left : line′ ≡ left c (o .line) line
-  pub up-left : up′ ≡ left c (o .up) up
+-- bytes written over the front of a lent buffer, and how many
+pub record Put (bytes lent : List ℕ) (r : ℕ) (lent′ : List ℕ) : Type 0 where
+  pub count : r ≡ length bytes
+  pub left : lent′ ≡ over bytes lent
+
+-- both buffers written, and the report
+pub record Written (o : Out) (line up : List ℕ) (r : Report) (line′ up′ : List ℕ) : Type 0 where
+  pub report : r ≡ reportOf o
+  pub line-left : line′ ≡ over (o .line) line
+  pub up-left : up′ ≡ over (o .up) up
+
+-- the promise of a link call with these checks of its own, that gives o on the link l
+pub record Call (own : Checked) (o : Out) (l : Link) (line up : List ℕ) (r : Answered) (line′ up′ : List ℕ) : Type 0 where
+  pub answer : r ≡ answered (checks line up own) o l
+  pub line-left : line′ ≡ left (checks line up own) (o .line) line
+  pub up-left : up′ ≡ left (checks line up own) (o .up) up
 
 -- and of a run of bytes
-pub record Run (c : Checked) (t : Taken) (l : Link) (line up : List ℕ) (r : Ran) (line′ up′ : List ℕ) : Type 0 where
-  pub answer : r ≡ ran c t l
-  pub line-left : line′ ≡ left c (t .out .line) line
-  pub up-left : up′ ≡ left c (t .out .up) up
+pub record Run (t : Taken) (l : Link) (line up : List ℕ) (r : Ran) (line′ up′ : List ℕ) : Type 0 where
+  pub answer : r ≡ ran (checks line up passes) t l
+  pub line-left : line′ ≡ left (checks line up passes) (t .out .line) line
+  pub up-left : up′ ≡ left (checks line up passes) (t .out .up) up

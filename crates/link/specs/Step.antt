@@ -29,6 +29,8 @@ use Rattle.link.specs.declared.report.Report.{Report}
 use Rattle.link.specs.declared.state.Core.{Core}
 use Rattle.link.specs.declared.state.Decision.{Decision}
 use Rattle.link.specs.declared.state.Link.{Link}
+use Rattle.link.specs.declared.state.Step.{Step}
+use Rattle.link.specs.declared.state.Stretch.{Stretch}
 
 -- what an accepted call gives: the next link, the four parts, the bytes for the line and those handed up
 pub record Out : Type 0 where
@@ -84,6 +86,10 @@ out body frame d =
       up = take (d .up) body;
     }
 
+-- the same of a step of the code
+abbrev pub stepOut : Step → Out
+stepOut s = out (s .body) (s .frame) (s .decision)
+
 abbrev pub byteBy : Rules → Link → ℕ → Heard → Out
 byteBy R l b h = out (keep (h .event) b (l .body)) (l .frame) (decideOn R (l .core) h)
 
@@ -132,6 +138,10 @@ quiet l = out (l .body) (l .frame) (decided (l .core .hearing) (l .core .size) (
 pub record Taken : Type 0 where
   pub out : Out
   pub taken : ℕ
+
+-- the same of a stretch of bytes taken by the code
+abbrev pub taking : Stretch → Taken
+taking s = record { out = stepOut (s .step); taken = s .taken }
 
 -- A run of bytes stops behind the first byte whose report is news and says how many were taken.
 -- Here o is what the last byte gave, with n taken.

@@ -56,7 +56,7 @@ pub struct Act {
 }
 
 // The job goes on: nothing in the session part, no reset, no copy.
-fn goes_on(job: Job, sending: Sending) -> Act
+pub fn goes_on(job: Job, sending: Sending) -> Act
     ensures { λ r. ⌜ r ≡ spec.goesOn job sending ⌝ }
 {
     Act {

@@ -1,9 +1,11 @@
 // The host end of the link (document 01, sections 3 to 7): bytes and ticks go in, bytes and reports come out.
 mod calls;
+mod emit;
 mod hearing;
 mod job;
 mod report;
 mod state;
+mod step;
 
 pub use calls::Answer;
 pub use calls::Answered;

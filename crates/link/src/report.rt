@@ -81,7 +81,7 @@ pub struct Sums {
     pub reset: Reset,
 }
 
-fn saying(reception: Reception, reply: Reply, up: u8) -> Said
+pub fn saying(reception: Reception, reply: Reply, up: u8) -> Said
     ensures { λ r. ⌜ r ≡ spec.said reception reply up ⌝ }
 {
     Said {
@@ -129,7 +129,7 @@ pub fn said_on(event: Event, job: Job) -> Said
     }
 }
 
-fn run_of(bad: u8, reset: Reset) -> Sums
+pub fn run_of(bad: u8, reset: Reset) -> Sums
     ensures { λ r. ⌜ r ≡ spec.sums bad reset ⌝ }
 {
     Sums {

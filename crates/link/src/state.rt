@@ -42,6 +42,19 @@ pub struct Decision {
     pub up: u8,
 }
 
+// A call decided, with the arrays that it leaves.
+pub struct Step {
+    pub body: [u8; 254],
+    pub frame: [u8; 257],
+    pub decision: Decision,
+}
+
+// Bytes of a run taken so far: the step of the last, and how many.
+pub struct Stretch {
+    pub step: Step,
+    pub taken: usize,
+}
+
 impl Link {
     // A frame may take so long from its first byte (section 4).
     pub const FRAME_TIME: Millis = Millis(1500);
@@ -55,9 +68,21 @@ impl Link {
     pub const BACK_OFF_2: Millis = Millis(1100);
 
     pub const BACK_OFF_3: Millis = Millis(2100);
+
+    // Opening: a fresh link, and nothing is put out.
+    pub fn open() -> Self
+        ensures { λ r. ⌜ r ≡ freshLink ⌝ }
+    {
+        let core = fresh_core();
+        Link {
+            core: core,
+            body: [0; 254],
+            frame: [0; 257],
+        }
+    }
 }
 
-fn fresh_core() -> Core
+pub fn fresh_core() -> Core
     ensures { λ r. ⌜ r ≡ freshCore ⌝ }
 {
     Core {

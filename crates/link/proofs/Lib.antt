@@ -1,0 +1,5 @@
+pub mod Runs
+pub mod Sizes
+pub mod Opened
+pub mod Ways
+pub mod Puts

@@ -1,0 +1,33 @@
+-- Bytes put behind what has been put: what `put_line` and `put_up` leave.
+-- Assumes nothing.
+use mathlib.Core.Path.{_≡_, refl, sym, ap, _∙_}
+use mathlib.Core.Bool.{Bool}
+use mathlib.Core.List.{List, [], _∷_, _++_}
+use Prim.Native.Nat.{ℕ, _+_, _≤_, _<_, min}
+use native.Mathlib.Nat.{min-le-right}
+use native.Mathlib.Omega.{arith}
+use lib.ListN.{length, take, length-append, length-take}
+use Rattle.frame.specs.Bytes.{over, Laid}
+use Rattle.frame.proofs.Over.{over-length, put-bytes, take-min, laid-in}
+use Rattle.link.specs.declared.report.Reply.{Reply}
+use Rattle.link.specs.declared.report.Reply.the-variants.{Silent, Ack, Nak}
+use Rattle.link.specs.Report.{replyBytes}
+use Rattle.link.specs.Calls.{Put}
+
+pub reply-short : (r : Reply) → length (replyBytes r) ≤ 1
+reply-short Silent = omega arith
+reply-short Ack = omega arith
+reply-short Nak = omega arith
+
+-- the first bytes of src, laid right behind bs
+pub put-behind : (bs src lent : List ℕ) (size n at : ℕ) {lent₁ lent₂ : List ℕ} {r : Bool}
+    → at ≡ length bs → lent₁ ≡ over bs lent → n ≡ min size (length src) → length bs + length src ≤ length lent
+    → Laid src n lent₁ at r lent₂ → Put (bs ++ take size src) lent (at + n) lent₂
+put-behind bs src lent size n at {lent₁} {lent₂} a l e room laid =
+    let in-src : n ≤ length src = omega (arith, e, min-le-right size (length src)) in
+    let same : length lent₁ ≡ length lent = ap length l ∙ over-length bs lent (omega arith) in
+    let whole : lent₂ ≡ over (bs ++ take n src) lent =
+        laid-in in-src (omega (arith, same)) laid ∙ simp (a, l) (put-bytes bs src lent n in-src) in
+    record
+      { count = simp (length-append, length-take, a, e)
+      ; left = whole ∙ ap (λ (s : List ℕ). over (bs ++ s) lent) (ap (λ (k : ℕ). take k src) e ∙ take-min size src) }

@@ -1,0 +1,73 @@
+use borrow.Author.Needs.{needs}
+use Rattle.link.proofs.emit.put_line.Statement.{statement}
+use Rattle.link.proofs.emit.put_line.Tie as tie
+use Rattle.link.proofs.emit.put_line.Reads as reads
+use Rattle.link.proofs.emit.put_line.Lts as lts
+use Rattle.frame.proofs.lay.Reads as lay-reads
+use Rattle.link.proofs.emit.least.Reads as least-reads
+use Rattle.link.proofs.emit.put_reply.Reads as put-reply-reads
+
+-- src/emit.rt:50:9
+put-reply-requires : tie.Need-put-reply-requires
+put-reply-requires c κs = search needs
+
+-- src/emit.rt:52:17
+least-requires : tie.Need-least-requires
+least-requires c κs = search needs
+
+-- src/emit.rt:52:17
+cast-n : tie.Need-cast-n
+cast-n c = search needs
+
+-- src/emit.rt:53:20
+slice-aggregate-lay : tie.Need-slice-aggregate-lay
+slice-aggregate-lay c = search needs
+
+-- src/emit.rt:53:9
+lay-requires : tie.Need-lay-requires
+lay-requires c κs = search needs
+
+-- src/emit.rt:54:17
+add-result : tie.Need-add-result
+add-result c = ?
+
+-- src/emit.rt:54:16
+cast-result : tie.Need-cast-result
+cast-result c = ?
+
+-- src/emit.rt:54:9
+same-length : tie.Need-same-length
+same-length c = search needs
+
+-- src/emit.rt:54:9
+returns : tie.Need-returns
+returns c = ?
+
+-- src/emit.rt:56:5
+cast-result-2 : tie.Need-cast-result-2
+cast-result-2 c = ?
+
+-- src/emit.rt:46:1
+same-length-2 : tie.Need-same-length-2
+same-length-2 c = search needs
+
+-- src/emit.rt:46:1
+returns-2 : tie.Need-returns-2
+returns-2 c = ?
+
+pub put-line-spec : {M : Type 1} → statement M
+put-line-spec =
+    tie.close
+    (tie.spec
+    put-reply-requires
+    least-requires
+    cast-n
+    slice-aggregate-lay
+    lay-requires
+    add-result
+    cast-result
+    same-length
+    returns
+    cast-result-2
+    same-length-2
+    returns-2)

@@ -1,0 +1,60 @@
+use borrow.Author.Needs.{needs}
+use Rattle.link.proofs.emit.put_reply.Statement.{statement}
+use Rattle.link.proofs.emit.put_reply.Tie as tie
+use Rattle.link.proofs.emit.put_reply.Reads as reads
+use Rattle.link.proofs.emit.put_reply.Lts as lts
+
+-- src/emit.rt:33:26
+enum-told : tie.Need-enum-told
+enum-told c = search needs
+
+-- src/emit.rt:35:13
+enum-told-2 : tie.Need-enum-told-2
+enum-told-2 c = search needs
+
+-- src/emit.rt:35:13
+slice-write-line : tie.Need-slice-write-line
+slice-write-line c = search needs
+
+-- src/emit.rt:39:13
+enum-told-3 : tie.Need-enum-told-3
+enum-told-3 c = search needs
+
+-- src/emit.rt:39:13
+slice-write-line-2 : tie.Need-slice-write-line-2
+slice-write-line-2 c = search needs
+
+-- src/emit.rt:28:1
+returns : tie.Need-returns
+returns c = search needs
+
+-- src/emit.rt:28:1
+same-length : tie.Need-same-length
+same-length c = search needs
+
+-- src/emit.rt:28:1
+returns-2 : tie.Need-returns-2
+returns-2 c = ?
+
+-- src/emit.rt:28:1
+same-length-2 : tie.Need-same-length-2
+same-length-2 c = search needs
+
+-- src/emit.rt:28:1
+returns-3 : tie.Need-returns-3
+returns-3 c = ?
+
+pub put-reply-spec : {M : Type 1} → statement M
+put-reply-spec =
+    tie.close
+    (tie.spec
+    enum-told
+    enum-told-2
+    slice-write-line
+    enum-told-3
+    slice-write-line-2
+    returns
+    same-length
+    returns-2
+    same-length-2
+    returns-3)
