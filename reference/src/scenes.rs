@@ -195,6 +195,9 @@ pub fn coincide(scribe: &mut Scribe) {
         session_awaiting(scribe);
     }
     scribe.open_some();
+    if scribe.dice.once_in(2) {
+        later_copy(scribe);
+    }
     let mut ends: Vec<u32> = scribe.sender_left().into_iter().collect();
     if let State::Waiting(ticks) = scribe.link().sender_state() {
         let loss = u32::from(Link::ACK_TICKS - ticks);
@@ -219,6 +222,18 @@ pub fn coincide(scribe: &mut Scribe) {
         scribe.ticks(1);
     } else {
         scribe.ticks_near(ABORT, 1);
+    }
+}
+
+/// Refuses up to three copies, so that a later one waits.
+fn later_copy(scribe: &mut Scribe) {
+    for _ in 0..scribe.dice.between(1, 3) {
+        if let (State::Waiting(_), true) = (scribe.link().sender_state(), scribe.hunting()) {
+            scribe.byte(NAK);
+        }
+        if let State::BackingOff(left) = scribe.link().sender_state() {
+            scribe.ticks(u32::from(left));
+        }
     }
 }
 
@@ -406,7 +421,7 @@ pub fn lengths(scribe: &mut Scribe) {
         }
     }
     if scribe.dice.once_in(2) {
-        scribe.byte(ACK);
+        settle(scribe);
     }
 }
 
@@ -424,8 +439,21 @@ pub fn busy(scribe: &mut Scribe) {
     } else {
         scribe.session(command, &parameters);
     }
-    if scribe.dice.once_in(3) {
-        scribe.byte(ACK);
+    if scribe.dice.once_in(2) {
+        settle(scribe);
+    }
+}
+
+/// Acknowledges what is open and answers a session, so that a next send is
+/// not refused for BUSY.
+fn settle(scribe: &mut Scribe) {
+    if !scribe.hunting() {
+        scribe.ticks(ABORT);
+    }
+    scribe.byte(ACK);
+    if scribe.session_left().is_some() {
+        let command = scribe.session_command();
+        scribe.runs(&whole(RES, command, &[]));
     }
 }
 
