@@ -31,7 +31,7 @@ pub struct TenMillisecondTicks(pub u8);
 impl TenMillisecondTicks {
     /// RANGE unless the time is a multiple of 10, 0 to 2,550 ms.
     pub fn from_milliseconds(time: Milliseconds) -> Result<TenMillisecondTicks, Refusal> {
-        if time.0 > 2_550 || time.0 % 10 != 0 {
+        if time.0 > 2_550 || !time.0.is_multiple_of(10) {
             return Err(Refusal::Range);
         }
         Ok(TenMillisecondTicks((time.0 / 10) as u8))

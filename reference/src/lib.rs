@@ -9,6 +9,7 @@ pub mod dice;
 pub mod frame;
 pub mod linecount;
 pub mod link;
+pub mod other_scenes;
 pub mod play;
 pub mod random;
 pub mod reception;

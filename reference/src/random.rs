@@ -1,5 +1,6 @@
 //! Random scripts of several kinds, each seeking out its edges.
 
+use crate::other_scenes::*;
 use crate::scenes::*;
 use crate::scribe::Scribe;
 

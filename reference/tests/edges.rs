@@ -160,9 +160,12 @@ fn the_clock_starts_with_the_01_and_not_before() {
     assert_eq!(bench.tick(), says(rx("abort"), tx(""), &[], &[]));
 }
 
+/// Bytes behind a 01, the end they make, its answer and the body handed up.
+type End<'a> = (&'a [u8], &'a str, &'a [u8], &'a [u8]);
+
 #[test]
 fn every_end_of_a_frame_puts_out_a_due_copy() {
-    let ends: [(&[u8], &str, &[u8], &[u8]); 6] = [
+    let ends: [End; 6] = [
         (&[2], "badlen", &[], &[]),
         (&REQ_07[1..], "frame", &[6], &[0, 7]),
         (&RES_07[1..], "strayresponse", &[6], &[1, 7]),

@@ -93,10 +93,12 @@ fn every_cut_and_every_addition_of_a_frame() {
     }
 }
 
+type LinkCall<'a> = &'a dyn Fn(&mut Link, &mut [u8], &mut [u8]) -> Result<Report, Refusal>;
+
 /// Every call with these rooms, each on a link of its own in this state.
 fn all_calls(link: &Link, line_room: usize, up_room: usize) -> Vec<Result<Report, Refusal>> {
     let long = [0; 253];
-    let calls: [&dyn Fn(&mut Link, &mut [u8], &mut [u8]) -> Result<Report, Refusal>; 8] = [
+    let calls: [LinkCall; 8] = [
         &|link, line, up| link.byte(0x55, line, up),
         &|link, line, up| link.bytes(&[0x55], line, up).map(|(_, report)| report),
         &|link, line, up| link.bytes(&[], line, up).map(|(_, report)| report),
