@@ -10,33 +10,37 @@ use reference::random::{kind, script};
 use reference::refusal::Refusal;
 use reference::script::{understand, Call};
 
-/// Every call of a script that a bench with enough room can do, with the link
-/// before it.
+/// Every line of a script that is in form, with the link before it. All calls
+/// have room enough.
 fn each_call(text: &str, mut look: impl FnMut(&Link, Call<'_>)) {
-    let mut bench = Bench::new();
+    let mut link = Link::open();
     let mut store = Vec::new();
     for line in text.lines() {
-        let Some(call) = understand(line.as_bytes(), &mut store) else {
-            continue;
-        };
-        look(&bench.link, call);
-        match call {
-            Call::Byte(byte) => drop(bench.byte(byte)),
-            Call::Bytes(run) => drop(bench.run(run)),
-            Call::Tick => drop(bench.tick()),
-            Call::Ticks(number) => drop(bench.ticks(number)),
-            Call::Send {
-                kind,
-                command,
-                parameters,
-            } => drop(bench.send(kind, command, parameters)),
-            Call::Session {
-                command,
-                parameters,
-            } => drop(bench.session(command, parameters)),
-            Call::Restart => drop(bench.restart()),
-            _ => {}
+        if let Some(call) = understand(line.as_bytes(), &mut store) {
+            look(&link, call);
+            follow(&mut link, call);
         }
+    }
+}
+
+fn follow(link: &mut Link, call: Call<'_>) {
+    let (line, up) = (&mut [0; 258], &mut [0; 254]);
+    match call {
+        Call::Byte(byte) => drop(link.byte(byte, line, up)),
+        Call::Bytes(run) => drop(link.bytes(run, line, up)),
+        Call::Tick => drop(link.tick(line, up)),
+        Call::Ticks(number) => (0..number).for_each(|_| follow(link, Call::Tick)),
+        Call::Send {
+            kind,
+            command,
+            parameters,
+        } => drop(link.send(kind, command, parameters, line, up)),
+        Call::Session {
+            command,
+            parameters,
+        } => drop(link.session(command, parameters, line, up)),
+        Call::Restart => drop(link.restart(line, up)),
+        _ => {}
     }
 }
 

@@ -19,6 +19,8 @@ struct Open {
     session: bool,
     ticks: u32,
     put_out: Vec<u8>,
+    /// Whole frames found in them.
+    copies: usize,
 }
 
 /// Watches a history by what the calls report and put out alone.
@@ -64,6 +66,7 @@ impl Watch {
             session,
             ticks: 0,
             put_out: Vec::new(),
+            copies: 0,
         });
     }
 
@@ -93,10 +96,13 @@ impl Watch {
             return;
         };
         open.ticks += u32::from(tick);
-        open.put_out.extend_from_slice(line);
-        let found = frames(&open.put_out);
-        assert!(found.iter().all(|frame| *frame == open.frame));
-        assert!(found.len() <= 4);
+        if !line.is_empty() {
+            open.put_out.extend_from_slice(line);
+            let found = frames(&open.put_out);
+            assert!(found.iter().all(|frame| *frame == open.frame));
+            assert!(found.len() <= 4);
+            open.copies = found.len();
+        }
         let bound = if open.session {
             SESSION_BOUND
         } else {
@@ -104,7 +110,7 @@ impl Watch {
         };
         match Watch::verdict(open.session, report) {
             Some((copies, failure)) => {
-                assert_eq!(found.len(), usize::from(copies));
+                assert_eq!(open.copies, usize::from(copies));
                 assert!(!failure || copies == 4);
                 assert!(open.ticks <= bound);
                 self.verdicts += 1;
@@ -201,14 +207,14 @@ fn watched(text: &str) -> Watch {
 fn random_histories_keep_the_promises() {
     let (mut verdicts, mut failures) = (0, 0);
     for kind in KINDS {
-        for seed in 1..=6 {
+        for seed in 1..=4 {
             let watch = watched(&script(seed, kind, 2_500));
             verdicts += watch.verdicts;
             failures += watch.failures;
         }
     }
-    assert!(verdicts > 5_000, "{verdicts}");
-    assert!(failures > 500, "{failures}");
+    assert!(verdicts > 4_000, "{verdicts}");
+    assert!(failures > 400, "{failures}");
 }
 
 /// The slowest history: accepted just after a 01, lost four times, and each
