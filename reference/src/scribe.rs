@@ -46,6 +46,10 @@ impl Scribe {
         self.lines
     }
 
+    pub fn text(&self) -> &str {
+        &self.text
+    }
+
     pub fn into_text(self) -> String {
         self.text
     }

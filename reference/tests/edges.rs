@@ -589,6 +589,38 @@ fn a_run_stops_behind_the_first_byte_that_says_more() {
 }
 
 #[test]
+fn each_part_by_itself_stops_a_run() {
+    for word in ["nothing", "skipped"] {
+        assert!(!says(rx(word), tx(""), &[], &[])
+            .report
+            .says_more_than_skipped());
+    }
+    for word in [
+        "badlen",
+        "frame",
+        "reserved",
+        "badsum",
+        "abort",
+        "strayresponse",
+    ] {
+        assert!(says(rx(word), tx(""), &[], &[])
+            .report
+            .says_more_than_skipped());
+    }
+    for words in [
+        "stray",
+        "copy:1",
+        "waiting",
+        "response:1",
+        "sums",
+        "delivery",
+    ] {
+        let said = says(rx("nothing"), tx(words), &[], &[]);
+        assert!(said.report.says_more_than_skipped(), "{words}");
+    }
+}
+
+#[test]
 fn a_due_is_said_once() {
     let mut bench = Bench::new();
     bench.byte(1);

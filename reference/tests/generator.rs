@@ -5,7 +5,10 @@ mod common;
 
 use common::played;
 use reference::dice::Dice;
+use reference::link::Link;
 use reference::random::{kind, script, KINDS};
+use reference::scribe::Scribe;
+use reference::script::{understand, Call};
 use reference::stream::{stream, STREAMS};
 use std::collections::HashSet;
 
@@ -54,6 +57,55 @@ fn no_call_spills_and_few_lines_are_errors() {
         let errors = lines.iter().filter(|line| *line == "error").count();
         let may = matches!(kind.name, "malformed" | "mixed");
         assert!(may || errors == 0, "{} {errors}", kind.name);
+    }
+}
+
+/// The model that aims must be where a link played by the same lines is.
+#[test]
+fn the_model_keeps_step() {
+    for kind in KINDS {
+        let mut scribe = Scribe::new(11);
+        let mut link = Link::open();
+        let mut rooms = (258, 254);
+        let mut done = 0;
+        while scribe.lines() < 600 {
+            let (_, scene) = scribe.dice.one(kind.scenes);
+            scene(&mut scribe);
+            for line in scribe.text()[done..].split('\n') {
+                follow(line, &mut link, &mut rooms);
+            }
+            done = scribe.text().len();
+            assert_eq!(scribe.link(), &link, "{}", kind.name);
+        }
+    }
+}
+
+/// Plays one line on a link.
+fn follow(line: &str, link: &mut Link, rooms: &mut (usize, usize)) {
+    let (mut lent, mut store) = ([0; 1_200], Vec::new());
+    let (line_lent, up_lent) = lent.split_at_mut(600);
+    let (to_line, up) = (&mut line_lent[..rooms.0], &mut up_lent[..rooms.1]);
+    match understand(line.as_bytes(), &mut store) {
+        Some(Call::Room { line, up }) => *rooms = (line, up),
+        Some(Call::Byte(byte)) => drop(link.byte(byte, to_line, up)),
+        Some(Call::Bytes(run)) => drop(link.bytes(run, to_line, up)),
+        Some(Call::Tick) => drop(link.tick(to_line, up)),
+        Some(Call::Ticks(number)) => {
+            for _ in 0..number {
+                let _ = link.tick(to_line, up);
+            }
+        }
+        Some(Call::Send {
+            kind,
+            command,
+            parameters,
+        }) => drop(link.send(kind, command, parameters, to_line, up)),
+        Some(Call::Session {
+            command,
+            parameters,
+        }) => drop(link.session(command, parameters, to_line, up)),
+        Some(Call::Restart) => drop(link.restart(to_line, up)),
+        _ => {}
     }
 }
 

@@ -15,7 +15,7 @@ use reference::script::{understand, Call};
 fn each_call(text: &str, mut look: impl FnMut(&Link, Call<'_>)) {
     let mut link = Link::open();
     let mut store = Vec::new();
-    for line in text.lines() {
+    for line in text.split('\n') {
         if let Some(call) = understand(line.as_bytes(), &mut store) {
             look(&link, call);
             follow(&mut link, call);

@@ -195,7 +195,7 @@ fn watched(text: &str) -> Watch {
         rooms: (258, 254),
     };
     let mut store = Vec::new();
-    for line in text.lines() {
+    for line in text.split('\n') {
         if let Some(call) = understand(line.as_bytes(), &mut store) {
             watched.play(call);
         }
