@@ -1,0 +1,23 @@
+//! The second, independent program: the host end of the Serial API link,
+//! written from document 01 alone, in plain Rust. The proved code is compared
+//! with it, so nothing here is taken from the proved code.
+//!
+//! The files are named for the sections of document 01.
+
+pub mod bodies;
+pub mod dice;
+pub mod frame;
+pub mod linecount;
+pub mod link;
+pub mod other_scenes;
+pub mod play;
+pub mod random;
+pub mod reception;
+pub mod refusal;
+pub mod report;
+pub mod scenes;
+pub mod scribe;
+pub mod script;
+pub mod sending;
+pub mod session;
+pub mod stream;

@@ -1,0 +1,342 @@
+//! Writes script lines and keeps a link of its own in step with them, so that
+//! the scenes can aim exactly at the edges of document 01.
+
+use crate::dice::Dice;
+use crate::frame::{self, ACK, CAN, NAK, REQ, RES, START};
+use crate::link::Link;
+use crate::script::{understand, Call, MOST_ROOM};
+use crate::sending::State;
+use crate::session::Session;
+use std::fmt::Write;
+
+/// Bytes with a meaning while hunting, which must have none inside a frame.
+pub const SPECIAL: [u8; 4] = [START, ACK, NAK, CAN];
+/// Few commands, so that responses often meet the session's.
+pub const COMMANDS: [u8; 6] = [0x02, 0x06, 0x07, 0x13, 0x15, 0x01];
+
+/// A script being written.
+pub struct Scribe {
+    pub dice: Dice,
+    text: String,
+    lines: usize,
+    link: Link,
+    line_room: usize,
+    up_room: usize,
+    /// What is still to come of the frame begun last.
+    rest: Vec<u8>,
+    /// Bytes that the last run took.
+    taken: usize,
+}
+
+impl Scribe {
+    pub fn new(seed: u64) -> Scribe {
+        Scribe {
+            dice: Dice::new(seed),
+            text: String::new(),
+            lines: 0,
+            link: Link::open(),
+            line_room: Link::LINE_ROOM,
+            up_room: Link::UP_ROOM,
+            rest: Vec::new(),
+            taken: 0,
+        }
+    }
+
+    pub fn lines(&self) -> usize {
+        self.lines
+    }
+
+    pub fn text(&self) -> &str {
+        &self.text
+    }
+
+    pub fn into_text(self) -> String {
+        self.text
+    }
+
+    /// The model link.
+    pub fn link(&self) -> &Link {
+        &self.link
+    }
+
+    /// Writes a line and does the same to the model as it does to the link
+    /// played.
+    pub fn say(&mut self, line: &str) {
+        self.text.push_str(line);
+        self.text.push('\n');
+        self.lines += 1;
+        self.follow(line);
+    }
+
+    /// Writes a line of a head and bytes.
+    pub fn say_bytes(&mut self, head: &str, bytes: &[u8]) {
+        let upper = self.dice.once_in(2);
+        let mut line = head.to_string();
+        for byte in bytes {
+            // Writing to a string can't fail.
+            let _ = if upper {
+                write!(line, " {byte:02X}")
+            } else {
+                write!(line, " {byte:02x}")
+            };
+        }
+        self.say(&line);
+    }
+
+    /// Plays the line on the model. What it answers is not looked at: a
+    /// refused call changes nothing.
+    fn follow(&mut self, line: &str) {
+        let mut store = Vec::new();
+        let Some(call) = understand(line.as_bytes(), &mut store) else {
+            return;
+        };
+        let (mut room, mut up_room) = ([0; MOST_ROOM], [0; MOST_ROOM]);
+        let (line, up) = (&mut room[..self.line_room], &mut up_room[..self.up_room]);
+        self.taken = 0;
+        match call {
+            Call::Room { line, up } => (self.line_room, self.up_room) = (line, up),
+            Call::Byte(byte) => drop(self.link.byte(byte, line, up)),
+            Call::Bytes(run) => {
+                let answer = self.link.bytes(run, line, up);
+                self.taken = answer.map_or(0, |(taken, _)| taken);
+            }
+            Call::Tick => drop(self.link.tick(line, up)),
+            Call::Ticks(number) => {
+                for _ in 0..number {
+                    let _ = self.link.tick(line, up);
+                }
+            }
+            Call::Send {
+                kind,
+                command,
+                parameters,
+            } => drop(self.link.send(kind, command, parameters, line, up)),
+            Call::Session {
+                command,
+                parameters,
+            } => drop(self.link.session(command, parameters, line, up)),
+            Call::Restart => drop(self.link.restart(line, up)),
+            _ => {}
+        }
+    }
+
+    pub fn byte(&mut self, byte: u8) {
+        self.say_bytes("byte", &[byte]);
+    }
+
+    /// One run in one line; answers how many bytes were taken.
+    pub fn run(&mut self, run: &[u8]) -> usize {
+        self.say_bytes("bytes", run);
+        self.taken
+    }
+
+    /// A run in as many lines as it takes.
+    pub fn runs(&mut self, mut run: &[u8]) {
+        while !run.is_empty() {
+            let taken = self.run(run);
+            if taken == 0 {
+                return;
+            }
+            run = &run[taken..];
+        }
+    }
+
+    /// Some ticks. With short room each is refused with a line of its own, so
+    /// there are few.
+    pub fn ticks(&mut self, number: u32) {
+        let number = if self.has_room() {
+            number
+        } else {
+            number.min(3)
+        };
+        if number == 1 && self.dice.once_in(2) {
+            self.say("tick");
+        } else {
+            self.say(&format!("ticks {number}"));
+        }
+    }
+
+    pub fn send(&mut self, kind: u8, command: u8, parameters: &[u8]) {
+        self.say_bytes(&format!("send {kind:02X} {command:02x}"), parameters);
+    }
+
+    pub fn session(&mut self, command: u8, parameters: &[u8]) {
+        self.say_bytes(&format!("session {command:02X}"), parameters);
+    }
+
+    pub fn restart(&mut self) {
+        self.say("restart");
+    }
+
+    pub fn room(&mut self, line: usize, up: usize) {
+        self.say(&format!("room {line} {up}"));
+    }
+
+    pub fn has_room(&self) -> bool {
+        self.line_room >= Link::LINE_ROOM && self.up_room >= Link::UP_ROOM
+    }
+
+    pub fn hunting(&self) -> bool {
+        self.link.frame_clock().is_none()
+    }
+
+    /// Ticks to the abort of the frame being received.
+    pub fn frame_left(&self) -> Option<u32> {
+        let clock = self.link.frame_clock()?;
+        Some(u32::from(Link::FRAME_TICKS + 1 - clock))
+    }
+
+    /// Ticks to the loss of the copy or the end of the back-off.
+    pub fn sender_left(&self) -> Option<u32> {
+        match self.link.sender_state() {
+            State::Waiting(ticks) => Some(u32::from(Link::ACK_TICKS - ticks)),
+            State::BackingOff(left) => Some(u32::from(left)),
+            State::Quiet | State::Due => None,
+        }
+    }
+
+    /// Ticks to the end of a session that awaits its response.
+    pub fn session_left(&self) -> Option<u32> {
+        match self.link.session_state() {
+            Session::Awaiting { ticks, .. } => Some(u32::from(Link::RESPONSE_TICKS - ticks)),
+            _ => None,
+        }
+    }
+
+    /// Ticks to within `around` of a number of ticks from now.
+    pub fn ticks_near(&mut self, number: u32, around: u32) {
+        let ticks = (number + self.dice.between(0, 2 * around)).saturating_sub(around);
+        self.ticks(ticks);
+    }
+
+    pub fn command(&mut self) -> u8 {
+        if self.dice.once_in(8) {
+            self.dice.byte()
+        } else {
+            self.dice.one(&COMMANDS)
+        }
+    }
+
+    /// The command of the open session, if there is one, else any.
+    pub fn session_command(&mut self) -> u8 {
+        match self.link.session_state() {
+            Session::Sending { command } | Session::Awaiting { command, .. } => command,
+            Session::Closed => self.command(),
+        }
+    }
+
+    /// Few parameters mostly, sometimes as many as can be.
+    pub fn parameters(&mut self) -> Vec<u8> {
+        let size = match self.dice.below(16) {
+            0 => self.dice.one(&[251, 252]),
+            1 => self.dice.between(7, 250),
+            2..=5 => 0,
+            _ => self.dice.between(1, 6),
+        };
+        self.parameters_of(size as usize)
+    }
+
+    /// Parameters of any bytes or of special ones alone.
+    pub fn parameters_of(&mut self, size: usize) -> Vec<u8> {
+        if self.dice.once_in(3) {
+            (0..size).map(|_| self.dice.one(&SPECIAL)).collect()
+        } else {
+            self.dice.bytes(size)
+        }
+    }
+
+    /// A reserved type, often next to the others.
+    pub fn reserved_kind(&mut self) -> u8 {
+        let any = self.dice.between(2, 255) as u8;
+        self.dice.one(&[2, 3, 255, any, any])
+    }
+
+    /// A frame in one of its shapes: request, response, reserved type, bad
+    /// sum, bad length.
+    pub fn some_frame(&mut self) -> Vec<u8> {
+        let command = self.command();
+        let awaited = self.session_command();
+        let parameters = self.parameters();
+        match self.dice.below(10) {
+            0..=2 => whole(REQ, command, &parameters),
+            3 => whole(RES, command, &parameters),
+            4..=5 => whole(RES, awaited, &parameters),
+            6 => {
+                let kind = self.reserved_kind();
+                whole(kind, command, &parameters)
+            }
+            7..=8 => {
+                let kind = self.dice.one(&[REQ, RES]);
+                let frame = whole(kind, command, &parameters);
+                self.damaged(frame)
+            }
+            _ => vec![START, self.dice.below(3) as u8],
+        }
+    }
+
+    /// A frame with one bit of its body or checksum turned over.
+    pub fn damaged(&mut self, mut frame: Vec<u8>) -> Vec<u8> {
+        let place = self.dice.between(2, frame.len() as u32 - 1) as usize;
+        frame[place] ^= 1 << self.dice.below(8);
+        frame
+    }
+
+    /// Gives the first `size` bytes of a frame and keeps the rest for `finish`.
+    pub fn begin(&mut self, frame: &[u8], size: usize) {
+        self.give(&frame[..size]);
+        self.rest = frame[size..].to_vec();
+    }
+
+    /// Gives the rest of the frame begun last.
+    pub fn finish(&mut self) {
+        let rest = std::mem::take(&mut self.rest);
+        self.give(&rest);
+    }
+
+    /// Gives some of the rest, but never the last byte.
+    pub fn go_on(&mut self) {
+        if self.rest.len() > 1 {
+            let size = self.dice.between(1, self.rest.len() as u32 - 1) as usize;
+            let part: Vec<u8> = self.rest.drain(..size).collect();
+            self.give(&part);
+        }
+    }
+
+    /// Bytes one by one if they are few, or in runs.
+    pub fn give(&mut self, bytes: &[u8]) {
+        if bytes.len() < 8 && self.dice.once_in(3) {
+            for &byte in bytes {
+                self.byte(byte);
+            }
+        } else {
+            self.runs(bytes);
+        }
+    }
+
+    /// Opens a send or session if none is open.
+    pub fn open_some(&mut self) {
+        if self.link.busy() {
+            return;
+        }
+        let command = self.command();
+        let parameters = self.parameters();
+        match self.dice.below(4) {
+            0..=1 => self.session(command, &parameters),
+            2 => self.send(REQ, command, &parameters),
+            _ => self.send(RES, command, &parameters),
+        }
+    }
+
+    pub fn single(&mut self) {
+        let byte = self.dice.one(&[ACK, NAK, CAN]);
+        self.byte(byte);
+    }
+}
+
+/// A frame with the right checksum, of any type.
+pub fn whole(kind: u8, command: u8, parameters: &[u8]) -> Vec<u8> {
+    let mut frame = vec![START, parameters.len() as u8 + 3, kind, command];
+    frame.extend_from_slice(parameters);
+    frame.push(frame::checksum(&frame[1..]));
+    frame
+}

@@ -1,0 +1,128 @@
+//! Section 5: sending one frame in up to four copies.
+
+use crate::frame::{build, MOST_FRAME};
+use crate::link::Link;
+use crate::reception::Single;
+use crate::refusal::Refusal;
+use crate::report::SendingPart;
+
+/// The four states of section 5.
+#[derive(Clone, Copy, Debug, PartialEq, Eq)]
+pub enum State {
+    Quiet,
+    /// A copy is to go out as soon as the frame being received ends.
+    Due,
+    /// Ticks since the copy was handed over.
+    Waiting(u16),
+    /// Ticks still to go.
+    BackingOff(u16),
+}
+
+/// The sending half of the link, with the frame being sent.
+#[derive(Clone, Debug, PartialEq, Eq)]
+pub struct Sender {
+    state: State,
+    copies: u8,
+    size: usize,
+    frame: [u8; MOST_FRAME],
+}
+
+impl Sender {
+    pub fn fresh() -> Sender {
+        Sender {
+            state: State::Quiet,
+            copies: 0,
+            size: 0,
+            frame: [0; MOST_FRAME],
+        }
+    }
+
+    pub fn state(&self) -> State {
+        self.state
+    }
+
+    /// Copies put out for the open send, or for the last one.
+    pub fn copies(&self) -> u8 {
+        self.copies
+    }
+
+    pub fn quiet(&self) -> bool {
+        self.state == State::Quiet
+    }
+
+    /// Takes a frame to send, which is then due. KIND and LONG are `build`'s;
+    /// its ROOM can't come, the place is large enough for every frame.
+    pub fn accept(&mut self, kind: u8, command: u8, parameters: &[u8]) -> Result<(), Refusal> {
+        self.size = build(kind, command, parameters, &mut self.frame)?;
+        self.copies = 0;
+        self.state = State::Due;
+        Ok(())
+    }
+
+    /// Puts a due copy out at the front of `line`. Answers what happened and
+    /// the number of bytes. The caller knows that the link is hunting.
+    pub fn release(&mut self, line: &mut [u8]) -> (SendingPart, usize) {
+        if self.state == State::Due {
+            self.put_out(line)
+        } else {
+            (SendingPart::Nothing, 0)
+        }
+    }
+
+    /// A single byte, heard while hunting.
+    pub fn single(&mut self, single: Single) -> SendingPart {
+        match (self.state, single) {
+            (State::Waiting(_), Single::Ack) => {
+                self.state = State::Quiet;
+                SendingPart::Acknowledged(self.copies)
+            }
+            (State::Waiting(_), Single::Nak | Single::Can) => self.not_delivered(),
+            _ => SendingPart::Stray,
+        }
+    }
+
+    /// One tick, after reception had its own: once, so that a copy put out
+    /// now has its wait at 0 and a back-off begun now has all its ticks to go.
+    pub fn tick(&mut self, hunting: bool, line: &mut [u8]) -> (SendingPart, usize) {
+        match self.state {
+            State::Quiet => (SendingPart::Nothing, 0),
+            State::Due if hunting => self.put_out(line),
+            State::Due => (SendingPart::Nothing, 0),
+            State::Waiting(ticks) if ticks + 1 == Link::ACK_TICKS => (self.not_delivered(), 0),
+            State::Waiting(ticks) => self.stay(State::Waiting(ticks + 1)),
+            State::BackingOff(left) if left > 1 => self.stay(State::BackingOff(left - 1)),
+            State::BackingOff(_) if hunting => self.put_out(line),
+            State::BackingOff(_) => {
+                self.state = State::Due;
+                (SendingPart::Due, 0)
+            }
+        }
+    }
+
+    fn stay(&mut self, state: State) -> (SendingPart, usize) {
+        self.state = state;
+        (SendingPart::Nothing, 0)
+    }
+
+    fn put_out(&mut self, line: &mut [u8]) -> (SendingPart, usize) {
+        line[..self.size].copy_from_slice(&self.frame[..self.size]);
+        self.copies += 1;
+        self.state = State::Waiting(0);
+        (SendingPart::Copy(self.copies), self.size)
+    }
+
+    /// NAK, CAN or loss: back off, or give up after the fourth copy. The
+    /// elapsed wait is not subtracted from the back-off.
+    fn not_delivered(&mut self) -> SendingPart {
+        match Link::BACK_OFF_TICKS.get(usize::from(self.copies) - 1) {
+            Some(&ticks) => {
+                self.state = State::BackingOff(ticks);
+                SendingPart::BackingOff(ticks)
+            }
+            None => {
+                self.state = State::Quiet;
+                SendingPart::Failed(self.copies)
+            }
+        }
+    }
+}

@@ -1,0 +1,294 @@
+//! The random scripts and streams: the same on every machine, of every kind,
+//! and at the edges they seek.
+
+mod common;
+
+use common::played;
+use reference::dice::Dice;
+use reference::link::Link;
+use reference::random::{kind, script, KINDS};
+use reference::scribe::Scribe;
+use reference::script::{understand, Call};
+use reference::stream::{stream, STREAMS};
+use std::collections::HashSet;
+
+#[test]
+fn the_dice_are_splitmix64() {
+    // The row that the published method gives for seed 0.
+    let mut dice = Dice::new(0);
+    let row = [dice.bits(), dice.bits(), dice.bits()];
+    assert_eq!(
+        row,
+        [
+            0xE220_A839_7B1D_CDAF,
+            0x6E78_9E6A_A1B9_65F4,
+            0x06C4_5D18_8009_454F
+        ]
+    );
+}
+
+#[test]
+fn dice_stay_in_their_bounds_and_reach_both() {
+    let mut dice = Dice::new(1);
+    let all: HashSet<u32> = (0..1_000).map(|_| dice.between(3, 7)).collect();
+    assert_eq!(all, HashSet::from([3, 4, 5, 6, 7]));
+}
+
+#[test]
+fn a_seed_gives_the_same_script_and_another_seed_another() {
+    for kind in KINDS {
+        let first = script(7, kind, 300);
+        assert_eq!(first, script(7, kind, 300));
+        assert_ne!(first, script(8, kind, 300));
+        let lines = first.lines().count();
+        assert!((300..400).contains(&lines), "{} {lines}", kind.name);
+    }
+    for (name, _) in STREAMS {
+        assert_eq!(stream(7, name, 999), stream(7, name, 999));
+        assert_ne!(stream(7, name, 999), stream(8, name, 999));
+    }
+}
+
+#[test]
+fn no_call_spills_and_few_lines_are_errors() {
+    for kind in KINDS {
+        let lines = played(&script(3, kind, 1_500));
+        assert!(!lines.iter().any(|line| line.contains("SPILL")));
+        let errors = lines.iter().filter(|line| *line == "error").count();
+        let may = matches!(kind.name, "malformed" | "mixed");
+        assert!(may || errors == 0, "{} {errors}", kind.name);
+    }
+}
+
+/// The model that aims must be where a link played by the same lines is.
+#[test]
+fn the_model_keeps_step() {
+    for kind in KINDS {
+        let mut scribe = Scribe::new(11);
+        let mut link = Link::open();
+        let mut rooms = (258, 254);
+        let mut done = 0;
+        while scribe.lines() < 600 {
+            let (_, scene) = scribe.dice.one(kind.scenes);
+            scene(&mut scribe);
+            for line in scribe.text()[done..].split('\n') {
+                follow(line, &mut link, &mut rooms);
+            }
+            done = scribe.text().len();
+            assert_eq!(scribe.link(), &link, "{}", kind.name);
+        }
+    }
+}
+
+/// Plays one line on a link.
+fn follow(line: &str, link: &mut Link, rooms: &mut (usize, usize)) {
+    let (mut lent, mut store) = ([0; 1_200], Vec::new());
+    let (line_lent, up_lent) = lent.split_at_mut(600);
+    let (to_line, up) = (&mut line_lent[..rooms.0], &mut up_lent[..rooms.1]);
+    match understand(line.as_bytes(), &mut store) {
+        Some(Call::Room { line, up }) => *rooms = (line, up),
+        Some(Call::Byte(byte)) => drop(link.byte(byte, to_line, up)),
+        Some(Call::Bytes(run)) => drop(link.bytes(run, to_line, up)),
+        Some(Call::Tick) => drop(link.tick(to_line, up)),
+        Some(Call::Ticks(number)) => {
+            for _ in 0..number {
+                let _ = link.tick(to_line, up);
+            }
+        }
+        Some(Call::Send {
+            kind,
+            command,
+            parameters,
+        }) => drop(link.send(kind, command, parameters, to_line, up)),
+        Some(Call::Session {
+            command,
+            parameters,
+        }) => drop(link.session(command, parameters, to_line, up)),
+        Some(Call::Restart) => drop(link.restart(to_line, up)),
+        _ => {}
+    }
+}
+
+/// The lines of several scripts of a kind.
+fn lines_of(name: &str) -> Vec<String> {
+    let kind = kind(name).unwrap();
+    (1..=4)
+        .flat_map(|seed| played(&script(seed, kind, 2_500)))
+        .collect()
+}
+
+/// Each of these must stand in a line of that kind.
+fn reaches(name: &str, edges: &[&str]) {
+    let lines = lines_of(name);
+    for edge in edges {
+        let found = lines.iter().filter(|line| line.contains(edge)).count();
+        assert!(found >= 3, "{name}: {edge} {found}");
+    }
+}
+
+#[test]
+fn frames_end_in_every_way() {
+    let ends = [
+        "rx=frame",
+        "rx=badsum",
+        "rx=badlen",
+        "rx=reserved",
+        "rx=abort",
+    ];
+    reaches("split", &ends);
+    reaches(
+        "slow",
+        &["rx=abort tx=copy:1", "rx=frame tx=nothing", "rx=badsum"],
+    );
+    reaches(
+        "sums",
+        &["reset=sums", "rx=reserved", "rx=badlen", "rx=abort"],
+    );
+}
+
+#[test]
+fn due_copies_go_out_on_every_end_of_a_frame() {
+    let edges = [
+        "rx=nothing tx=due",
+        "rx=frame tx=copy:1",
+        "rx=badsum tx=copy:1",
+        "rx=badlen tx=copy:",
+        "rx=reserved tx=copy:",
+        "rx=strayresponse tx=copy:",
+        "rx=abort tx=copy:4",
+    ];
+    reaches("inside", &edges);
+}
+
+#[test]
+fn aborts_coincide_with_every_other_end() {
+    let edges = [
+        "rx=abort tx=backoff:100",
+        "rx=abort tx=backoff:1100",
+        "rx=abort tx=backoff:2100",
+        "rx=abort tx=failed:4 session=nothing",
+        "rx=abort tx=failed:4 session=notsent:4",
+        "rx=abort tx=copy:2",
+        "rx=abort tx=copy:4",
+        "rx=abort tx=nothing session=noresponse",
+    ];
+    reaches("coincidences", &edges);
+}
+
+#[test]
+fn sends_and_sessions_end_in_every_way() {
+    reaches(
+        "answers",
+        &["tx=stray", "tx=acked:4", "tx=failed:4", "tx=backoff:2100"],
+    );
+    reaches("silence", &["tx=failed:4", "session=noresponse:"]);
+    reaches(
+        "restarts",
+        &[
+            "tx=abandoned session=nothing",
+            "tx=nothing session=abandoned",
+        ],
+    );
+    let ends = [
+        "session=response:1",
+        "session=noresponse:1",
+        "rx=strayresponse",
+    ];
+    reaches("sessions", &ends);
+    reaches("sessions", &["rx=frame tx=nothing session=nothing"]);
+}
+
+#[test]
+fn every_link_call_is_refused_for_room() {
+    let lines = lines_of("rooms");
+    for call in ["send", "session", "byte", "bytes", "tick", "restart"] {
+        let refused =
+            |line: &String| line.split(' ').next() == Some(call) && line.ends_with(" refused=1");
+        assert!(lines.iter().any(refused), "{call}");
+    }
+}
+
+#[test]
+fn sends_are_refused_for_every_cause() {
+    reaches("busy", &[" refused=2", " refused=3", " refused=4"]);
+    reaches("lengths", &["build refused=4", "refused=4"]);
+    reaches("malformed", &["error"]);
+}
+
+#[test]
+fn frames_are_refused_for_every_cause() {
+    let mut edges = vec!["build ok".to_string(), "read ok".to_string()];
+    edges.extend([1, 3, 4].map(|number| format!("build refused={number}")));
+    edges.extend([3, 5, 6, 7, 8, 9].map(|number| format!("read refused={number}")));
+    let edges: Vec<&str> = edges.iter().map(String::as_str).collect();
+    reaches("frames", &edges);
+}
+
+#[test]
+fn bodies_are_taken_and_refused_for_every_cause() {
+    reaches(
+        "bodies",
+        &["capabilities ok", "capabilities refused=10", "count=255 "],
+    );
+    reaches("bodies", &["nodes ok", "nodes refused=10"]);
+    reaches("bodies", &["timeouts ok", "timeouts refused=11"]);
+    reaches("bodies", &["timeoutsres ok", "timeoutsres refused=10"]);
+    // These end in a number that begins another.
+    for line in ["nodes refused=1", "timeouts refused=1"] {
+        assert!(
+            lines_of("bodies").iter().any(|other| other == line),
+            "{line}"
+        );
+    }
+}
+
+/// Ticks since the last copy at which each answer to it came.
+#[test]
+fn answers_come_at_1599_and_after_1600() {
+    let mut copy_at = 0;
+    let mut acked = HashSet::new();
+    let mut refused = HashSet::new();
+    for line in lines_of("answers") {
+        let at: u64 = line
+            .split("at=")
+            .nth(1)
+            .unwrap()
+            .split(' ')
+            .next()
+            .unwrap()
+            .parse()
+            .unwrap();
+        if line.contains("tx=copy:") {
+            copy_at = at;
+        } else if line.contains("tx=acked:") {
+            acked.insert(at - copy_at);
+        } else if line.contains("tx=backoff:") {
+            refused.insert(at - copy_at);
+        }
+    }
+    assert!(acked.contains(&1_598) && acked.contains(&1_599));
+    assert!(refused.contains(&1_599) && refused.contains(&1_600));
+    assert!(acked.iter().chain(&refused).all(|&ticks| ticks <= 1_600));
+    assert!(!acked.contains(&1_600));
+}
+
+#[test]
+fn responses_come_at_4999_and_no_later() {
+    let mut acked_at = 0;
+    let mut responses = HashSet::new();
+    for line in lines_of("sessions") {
+        let Some(at) = line.split("at=").nth(1) else {
+            continue;
+        };
+        let at: u64 = at.split(' ').next().unwrap().parse().unwrap();
+        if line.contains("session=waiting") {
+            acked_at = at;
+        } else if line.contains("session=response:") {
+            responses.insert(at - acked_at);
+        } else if line.contains("session=noresponse:") {
+            assert_eq!(at - acked_at, 5_000);
+        }
+    }
+    assert!(responses.contains(&4_999) && responses.contains(&4_998));
+    assert!(!responses.contains(&5_000));
+}

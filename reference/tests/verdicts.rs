@@ -1,0 +1,331 @@
+//! What holds of every history: a send or session has one verdict, in time, and
+//! the copies in the verdict are whole frames found in the bytes put out.
+
+mod common;
+
+use common::*;
+use reference::link::Link;
+use reference::random::{script, KINDS};
+use reference::report::{Report, SendingPart, SessionPart};
+use reference::script::{understand, Call};
+
+/// The last tick on which a verdict may come, counted from acceptance.
+const SEND_BOUND: u32 = 15_701;
+const SESSION_BOUND: u32 = 20_700;
+
+/// An accepted send or session without its verdict.
+struct Open {
+    frame: Vec<u8>,
+    session: bool,
+    ticks: u32,
+    put_out: Vec<u8>,
+    /// Whole frames found in them.
+    copies: usize,
+}
+
+/// Watches a history by what the calls report and put out alone.
+struct Watch {
+    open: Option<Open>,
+    verdicts: u32,
+    failures: u32,
+    latest: u32,
+}
+
+/// Cuts bytes put out into single bytes and whole frames; the frames.
+fn frames(mut bytes: &[u8]) -> Vec<&[u8]> {
+    let mut frames = Vec::new();
+    while let Some(&first) = bytes.first() {
+        let size = if first == 0x01 {
+            usize::from(bytes[1]) + 2
+        } else {
+            1
+        };
+        let (front, rest) = bytes.split_at(size);
+        if first == 0x01 {
+            frames.push(front);
+        }
+        bytes = rest;
+    }
+    frames
+}
+
+impl Watch {
+    fn new() -> Watch {
+        Watch {
+            open: None,
+            verdicts: 0,
+            failures: 0,
+            latest: 0,
+        }
+    }
+
+    fn accepted(&mut self, frame: Vec<u8>, session: bool) {
+        assert!(self.open.is_none(), "accepted while one is open");
+        self.open = Some(Open {
+            frame,
+            session,
+            ticks: 0,
+            put_out: Vec::new(),
+            copies: 0,
+        });
+    }
+
+    /// The copies of a verdict and whether it is a failure.
+    fn verdict(session: bool, report: &Report) -> Option<(u8, bool)> {
+        if session {
+            return match report.session {
+                SessionPart::Response(copies) | SessionPart::NoResponse(copies) => {
+                    Some((copies, false))
+                }
+                SessionPart::NotSent(copies) => Some((copies, true)),
+                _ => None,
+            };
+        }
+        match report.sending {
+            SendingPart::Acknowledged(copies) => Some((copies, false)),
+            SendingPart::Failed(copies) => Some((copies, true)),
+            _ => None,
+        }
+    }
+
+    /// An accepted call: its report and the bytes it put out.
+    fn call(&mut self, report: &Report, line: &[u8], tick: bool) {
+        let Some(open) = &mut self.open else {
+            assert_eq!(Watch::verdict(false, report), None, "a verdict of nothing");
+            assert_eq!(Watch::verdict(true, report), None, "a verdict of nothing");
+            return;
+        };
+        open.ticks += u32::from(tick);
+        if !line.is_empty() {
+            open.put_out.extend_from_slice(line);
+            let found = frames(&open.put_out);
+            assert!(found.iter().all(|frame| *frame == open.frame));
+            assert!(found.len() <= 4);
+            open.copies = found.len();
+        }
+        let bound = if open.session {
+            SESSION_BOUND
+        } else {
+            SEND_BOUND
+        };
+        match Watch::verdict(open.session, report) {
+            Some((copies, failure)) => {
+                assert_eq!(open.copies, usize::from(copies));
+                assert!(!failure || copies == 4);
+                assert!(open.ticks <= bound);
+                self.verdicts += 1;
+                self.failures += u32::from(failure);
+                self.latest = self.latest.max(open.ticks);
+                self.open = None;
+            }
+            None => assert!(open.ticks < bound, "no verdict in time"),
+        }
+    }
+}
+
+/// Plays a script on a link under the watch.
+struct Watched {
+    link: Link,
+    watch: Watch,
+    rooms: (usize, usize),
+}
+
+impl Watched {
+    fn play(&mut self, call: Call<'_>) {
+        match call {
+            Call::Room { line, up } => self.rooms = (line, up),
+            Call::Ticks(number) => (0..number).for_each(|_| self.play(Call::Tick)),
+            _ => self.call(call),
+        }
+    }
+
+    /// One call on the link; the watch hears of it if it is accepted.
+    fn call(&mut self, call: Call<'_>) {
+        let (mut line, mut up) = ([0; 600], [0; 600]);
+        let (line, up) = (&mut line[..self.rooms.0], &mut up[..self.rooms.1]);
+        let Some(report) = called(&mut self.link, call, line, up) else {
+            return;
+        };
+        match call {
+            Call::Send {
+                kind,
+                command,
+                parameters,
+            } => self
+                .watch
+                .accepted(framed(kind, command, parameters), false),
+            Call::Session {
+                command,
+                parameters,
+            } => self.watch.accepted(framed(0, command, parameters), true),
+            // What was open has no verdict any more.
+            Call::Restart => self.watch.open = None,
+            _ => {}
+        }
+        self.watch
+            .call(&report, &line[..report.line], call == Call::Tick);
+    }
+}
+
+/// The report of a call on the link, if it is one and is accepted.
+fn called(link: &mut Link, call: Call<'_>, line: &mut [u8], up: &mut [u8]) -> Option<Report> {
+    let answer = match call {
+        Call::Tick => link.tick(line, up),
+        Call::Byte(byte) => link.byte(byte, line, up),
+        Call::Bytes(run) => link.bytes(run, line, up).map(|(_, report)| report),
+        Call::Send {
+            kind,
+            command,
+            parameters,
+        } => link.send(kind, command, parameters, line, up),
+        Call::Session {
+            command,
+            parameters,
+        } => link.session(command, parameters, line, up),
+        Call::Restart => link.restart(line, up),
+        _ => return None,
+    };
+    answer.ok()
+}
+
+fn watched(text: &str) -> Watch {
+    let mut watched = Watched {
+        link: Link::open(),
+        watch: Watch::new(),
+        rooms: (258, 254),
+    };
+    let mut store = Vec::new();
+    for line in text.split('\n') {
+        if let Some(call) = understand(line.as_bytes(), &mut store) {
+            watched.play(call);
+        }
+    }
+    watched.watch
+}
+
+#[test]
+fn random_histories_keep_the_promises() {
+    let (mut verdicts, mut failures) = (0, 0);
+    for kind in KINDS {
+        for seed in 1..=4 {
+            let watch = watched(&script(seed, kind, 2_500));
+            verdicts += watch.verdicts;
+            failures += watch.failures;
+        }
+    }
+    assert!(verdicts > 4_000, "{verdicts}");
+    assert!(failures > 400, "{failures}");
+}
+
+/// The slowest history: accepted just after a 01, lost four times, and each
+/// back-off ends just after another 01.
+fn slowest(open: &str) -> String {
+    let mut text = format!("byte 01\n{open}\nticks 1501\n");
+    for back_off in [100, 1_100, 2_100] {
+        // The loss, then all but one tick of the back-off, then a 01 whose
+        // abort puts the due copy out.
+        let ticks = 1_600 + back_off - 1;
+        text += &format!("ticks {ticks}\nbyte 01\nticks 1501\n");
+    }
+    text
+}
+
+#[test]
+fn a_send_can_take_15701_ticks() {
+    let watch = watched(&(slowest("send 00 07 01 06") + "ticks 1600\nticks 9000\n"));
+    assert_eq!(
+        (watch.verdicts, watch.failures, watch.latest),
+        (1, 1, 15_701)
+    );
+    let lines = played(&(slowest("send 00 07") + "ticks 1600\n"));
+    assert_eq!(
+        lines.last().unwrap(),
+        "tick at=15701 rx=nothing tx=failed:4 session=nothing reset=delivery line=- up=-"
+    );
+}
+
+#[test]
+fn a_session_can_take_20700_ticks() {
+    let text = slowest("session 07 01") + "ticks 1599\nbyte 06\nticks 5000\nticks 9000\n";
+    let watch = watched(&text);
+    assert_eq!(
+        (watch.verdicts, watch.failures, watch.latest),
+        (1, 0, 20_700)
+    );
+    let lines = played(&text);
+    assert_eq!(
+        lines.last().unwrap(),
+        "tick at=20700 rx=nothing tx=nothing session=noresponse:4 reset=none line=- up=-"
+    );
+}
+
+/// The watch itself must be able to find fault.
+mod the_watch_finds {
+    use super::*;
+    use reference::report::{ReceptionPart, ResetPart};
+
+    fn report(sending: SendingPart, session: SessionPart) -> Report {
+        Report {
+            reception: ReceptionPart::Nothing,
+            sending,
+            session,
+            reset: ResetPart::None,
+            line: 0,
+            up: 0,
+        }
+    }
+
+    fn sent() -> Watch {
+        let mut watch = Watch::new();
+        watch.accepted(REQ_07.to_vec(), false);
+        let copy = report(SendingPart::Copy(1), SessionPart::Nothing);
+        watch.call(&copy, &REQ_07, false);
+        watch
+    }
+
+    #[test]
+    #[should_panic]
+    fn a_second_verdict() {
+        let mut watch = sent();
+        let acked = report(SendingPart::Acknowledged(1), SessionPart::Nothing);
+        watch.call(&acked, &[], false);
+        watch.call(&acked, &[], false);
+    }
+
+    #[test]
+    #[should_panic]
+    fn copies_made_up() {
+        let acked = report(SendingPart::Acknowledged(2), SessionPart::Nothing);
+        sent().call(&acked, &[], false);
+    }
+
+    #[test]
+    #[should_panic]
+    fn another_frame() {
+        let copy = report(SendingPart::Copy(2), SessionPart::Nothing);
+        sent().call(&copy, &RES_07, false);
+    }
+
+    #[test]
+    #[should_panic]
+    fn a_failure_after_one_copy() {
+        let failed = report(SendingPart::Failed(1), SessionPart::Nothing);
+        sent().call(&failed, &[], false);
+    }
+
+    #[test]
+    #[should_panic]
+    fn a_fifth_copy() {
+        let copy = report(SendingPart::Copy(2), SessionPart::Nothing);
+        let mut watch = sent();
+        (0..4).for_each(|_| watch.call(&copy, &REQ_07, false));
+    }
+
+    #[test]
+    #[should_panic]
+    fn no_verdict_in_time() {
+        let nothing = report(SendingPart::Nothing, SessionPart::Nothing);
+        let mut watch = sent();
+        (0..SEND_BOUND).for_each(|_| watch.call(&nothing, &[], true));
+    }
+}
