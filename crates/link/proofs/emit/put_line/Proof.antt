@@ -1,3 +1,12 @@
+use mathlib.Core.Path.{_≡_}
+use mathlib.Core.List.{append-nil}
+use Prim.Native.Nat.{_+_, _≤_}
+use native.Mathlib.Nat.{min-le-right}
+use native.Mathlib.Omega.{arith}
+use lib.ListN.{length}
+use denote.Ref.{now}
+use Rattle.link.specs.Report.{replyBytes}
+use Rattle.link.proofs.Puts.{reply-short, put-behind}
 use borrow.Author.Needs.{needs}
 use Rattle.link.proofs.emit.put_line.Statement.{statement}
 use Rattle.link.proofs.emit.put_line.Tie as tie
@@ -29,11 +38,21 @@ lay-requires c κs = search needs
 
 -- src/emit.rt:54:17
 add-result : tie.Need-add-result
-add-result c = ?
+add-result c =
+    let st = c .before .before .before .before .before .before .before .before .before .before .before .before in
+    let a = st .args in
+    let put = c .before .before .before .before .before .before .before .before .before .put-reply .ensures in
+    let n = c .before .before .before .before .before .least .ensures in
+    omega (arith, put .0, reply-short (a .reply), n, min-le-right (a .size) 257)
 
 -- src/emit.rt:54:16
 cast-result : tie.Need-cast-result
-cast-result c = ?
+cast-result c =
+    let st = c .before .before .before .before .before .before .before .before .before .before .before .before in
+    let a = st .args in
+    let put = c .before .before .before .before .before .before .before .before .before .put-reply .ensures in
+    let n = c .before .before .before .before .before .least .ensures in
+    omega (arith, put .0, reply-short (a .reply), n, min-le-right (a .size) 257)
 
 -- src/emit.rt:54:9
 same-length : tie.Need-same-length
@@ -41,11 +60,22 @@ same-length c = search needs
 
 -- src/emit.rt:54:9
 returns : tie.Need-returns
-returns c = ?
+returns c =
+    let st = c .before .before .before .before .before .before .before .before .before .before .before .before in
+    let a = st .args in
+    let put = c .before .before .before .before .before .before .before .before .before .put-reply .ensures in
+    let n = c .before .before .before .before .before .least .ensures in
+    let z : length (a .t3) ≡ 257 = st .good .1 .1 .0 .1 .0 .1 in
+    let room : length (replyBytes (a .reply)) + length (a .t3) ≤ length (now (a .line)) = omega (arith, z, reply-short (a .reply), st .pre) in
+    simp (c .before .before .before .before .before .before .if1 .taken)
+    (put-behind (replyBytes (a .reply)) (a .t3) (now (a .line)) (a .size) _ _ (put .0) (put .1) (simp z n) room (c .before .before .lay .ensures))
 
 -- src/emit.rt:56:5
 cast-result-2 : tie.Need-cast-result-2
-cast-result-2 c = ?
+cast-result-2 c =
+    let st = c .before .before .before .before .before .before in
+    let put = c .before .before .before .put-reply .ensures in
+    omega (arith, put .0, reply-short (st .args .reply))
 
 -- src/emit.rt:46:1
 same-length-2 : tie.Need-same-length-2
@@ -53,7 +83,10 @@ same-length-2 c = search needs
 
 -- src/emit.rt:46:1
 returns-2 : tie.Need-returns-2
-returns-2 c = ?
+returns-2 c =
+    let st = c .before .before .before .before .before .before in
+    let put = c .before .before .before .put-reply .ensures in
+    simp (c .if1 .left, append-nil) (record { count = put .0; left = put .1 })
 
 pub put-line-spec : {M : Type 1} → statement M
 put-line-spec =

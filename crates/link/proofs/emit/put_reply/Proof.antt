@@ -1,3 +1,7 @@
+use mathlib.Core.Path.{refl}
+use native.Mathlib.Omega.{arith}
+use denote.Ref.{now}
+use Rattle.frame.proofs.Over.{over-one}
 use borrow.Author.Needs.{needs}
 use Rattle.link.proofs.emit.put_reply.Statement.{statement}
 use Rattle.link.proofs.emit.put_reply.Tie as tie
@@ -34,7 +38,9 @@ same-length c = search needs
 
 -- src/emit.rt:28:1
 returns-2 : tie.Need-returns-2
-returns-2 c = ?
+returns-2 c =
+    let st = c .before .before in
+    simp (c .enum-told2 .given .1) (refl, over-one (now (st .args .line)) 6 (omega (arith, st .pre)))
 
 -- src/emit.rt:28:1
 same-length-2 : tie.Need-same-length-2
@@ -42,7 +48,9 @@ same-length-2 c = search needs
 
 -- src/emit.rt:28:1
 returns-3 : tie.Need-returns-3
-returns-3 c = ?
+returns-3 c =
+    let st = c .before .before in
+    simp (c .enum-told3 .given .1) (refl, over-one (now (st .args .line)) 21 (omega (arith, st .pre)))
 
 pub put-reply-spec : {M : Type 1} → statement M
 put-reply-spec =

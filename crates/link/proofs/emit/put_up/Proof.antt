@@ -1,3 +1,11 @@
+use mathlib.Core.Path.{_≡_, refl}
+use mathlib.Core.List.{[]}
+use Prim.Native.Nat.{_+_, _≤_}
+use native.Mathlib.Nat.{zero-add}
+use native.Mathlib.Omega.{arith}
+use lib.ListN.{length}
+use denote.Ref.{now}
+use Rattle.link.proofs.Puts.{put-behind}
 use borrow.Author.Needs.{needs}
 use Rattle.link.proofs.emit.put_up.Statement.{statement}
 use Rattle.link.proofs.emit.put_up.Tie as tie
@@ -28,7 +36,13 @@ same-length c = search needs
 
 -- src/emit.rt:60:1
 returns : tie.Need-returns
-returns c = ?
+returns c =
+    let st = c .before .before .before .before .before .before .before in
+    let a = st .args in
+    let z : length (a .t1) ≡ 254 = st .good .0 .1 .0 .1 in
+    let room : 0 + length (a .t1) ≤ length (now (a .up)) = omega (arith, z, st .pre) in
+    let put = put-behind [] (a .t1) (now (a .up)) (a .n) (c .before .before .before .before .before .least .result) 0 refl refl (simp z (c .before .before .before .before .before .least .ensures)) room (c .before .before .lay .ensures) in
+    record { count = simp zero-add at (put .count); left = put .left }
 
 pub put-up-spec : {M : Type 1} → statement M
 put-up-spec =

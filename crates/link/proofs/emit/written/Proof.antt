@@ -24,7 +24,10 @@ same-length-2 c = search needs
 
 -- src/emit.rt:70:1
 returns : tie.Need-returns
-returns c = ?
+returns c =
+    let line = c .before .before .before .before .before .before .put-line .ensures in
+    let up = c .before .before .put-up .ensures in
+    record { report = simp (line .count, up .count); line-left = line .left; up-left = up .left }
 
 pub written-spec : {M : Type 1} → statement M
 written-spec =
