@@ -10,7 +10,7 @@ use lib.ListN.{length, take, drop, set, length-set}
 use lib.Seq.{paste, take-at, take-length}
 use Rattle.frame.specs.Bytes.{over, xorAll, Laid}
 use Rattle.frame.specs.Frame.{counted, checksum, frameOf}
-use Rattle.frame.proofs.Over.{over-length, put-byte, put-bytes, laid-in}
+use Rattle.frame.proofs.Over.{put-byte, put-bytes, laid-in}
 
 -- four stores at the front
 abbrev pub headed : List ℕ → ℕ → ℕ → ℕ → ℕ → List ℕ
@@ -34,10 +34,6 @@ laid-over d ps kind command h laid =
     ∙ ap (λ (l : List ℕ). paste l 4 ps (length ps)) (head-over d 1 (length ps + 3) kind command (omega arith))
     ∙ put-bytes (1 ∷ (length ps + 3) ∷ kind ∷ command ∷ []) ps d (length ps) (le-refl (length ps))
     ∙ ap (λ (l : List ℕ). over (1 ∷ (length ps + 3) ∷ kind ∷ command ∷ l) d) (take-length ps)
-
-pub laid-length : (d ps : List ℕ) (kind command : ℕ) {r : Bool} {d′ : List ℕ} → length ps + 5 ≤ length d
-    → Laid ps (length ps) (headed d 1 (length ps + 3) kind command) 4 r d′ → length d′ ≡ length d
-laid-length d ps kind command h laid = ap length (laid-over d ps kind command h laid) ∙ over-length (1 ∷ counted kind command ps) d (omega arith)
 
 -- and the checksum of what stands there
 pub framed-over : (d ps : List ℕ) (kind command v : ℕ) {d′ : List ℕ} → length ps + 5 ≤ length d

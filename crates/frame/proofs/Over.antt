@@ -3,7 +3,7 @@
 --     put-bytes       a copy right behind bs
 --     over-one        a store at the front
 --     over-paste      a copy to the front; over-paste-1: behind one byte stored there
---     laid-in         what `lay` leaves where all of it fits
+--     laid-in         what `lay` leaves where all of it fits; laid-length: as many bytes as there were
 --     over-length     as long as the buffer was
 -- Assumes nothing.
 use mathlib.Core.Path.{_≡_, refl, sym, ap, _∙_}
@@ -13,10 +13,11 @@ use Prim.Native.Nat.{ℕ, _+_, _≤_, _<_, min}
 use native.Mathlib.Numerals.{add-one, one-add}
 use native.Mathlib.Nat.{zero-add, le-of-lt, min-eq-left, min-eq-right, not-suc-le-zero}
 use native.Mathlib.Omega.{arith}
-use lib.Dec.{leb}
+use lib.Dec.{leb, ltb}
 use lib.ListN.{length, take, set, length-append, length-take, length-drop}
-use lib.Seq.{paste, take-all, take-append-seam, drop-append-add, drop-drop, length-take-le, drop-cons, set-append-seam, append-snoc, take-length}
-use borrow.Author.Tests.{leb-true, leb-false, le-ltb}
+use lib.Seq.{paste, length-paste, take-all, take-append-seam, drop-append-add, drop-drop, length-take-le, drop-cons, set-append-seam, append-snoc, take-length}
+use borrow.Author.Tests.{leb-true, leb-false, le-ltb, ltb-false}
+use Rattle.frame.specs.Pick.{pick}
 use Rattle.frame.specs.Bytes.{over, Laid}
 
 pub over-length : (bs d : List ℕ) → length bs ≤ length d → length (over bs d) ≡ length d
@@ -51,3 +52,13 @@ over-paste-1 (x ∷ d) s v n m e h = simp (e, one-add, take-min, length-take)
 pub laid-in : {src : List ℕ} {n : ℕ} {dst : List ℕ} {at : ℕ} {r : Bool} {dst′ : List ℕ} → n ≤ length src → at + n ≤ length dst → Laid src n dst at r dst′
     → dst′ ≡ paste dst at src n
 laid-in {src} {n} {dst} {at} hs hd laid = laid .left ∙ simp (le-ltb (length src) n hs, le-ltb (length dst) (at + n) hd)
+
+laid-length-by : (src : List ℕ) (n : ℕ) (dst : List ℕ) (at : ℕ) (s t : Bool) → ltb (length src) n ≡ s → ltb (length dst) (at + n) ≡ t
+    → length (pick (pick s false (pick t false true)) (paste dst at src n) dst) ≡ length dst
+laid-length-by src n dst at true t e f = refl
+laid-length-by src n dst at false true e f = refl
+laid-length-by src n dst at false false e f = length-paste dst at src n (ltb-false (length dst) (at + n) f) (ltb-false (length src) n e)
+
+-- and it never changes the length
+pub laid-length : {src : List ℕ} {n : ℕ} {dst : List ℕ} {at : ℕ} {r : Bool} {dst′ : List ℕ} → Laid src n dst at r dst′ → length dst′ ≡ length dst
+laid-length {src} {n} {dst} {at} laid = ap length (laid .left) ∙ laid-length-by src n dst at (ltb (length src) n) (ltb (length dst) (at + n)) refl refl

@@ -29,10 +29,12 @@ use Rattle.frame.proofs.Whole.{Whole, reads-whole, whole-reads, whole-l
 pub fixed : {A : Type 0} {r q x : A} → r ≡ x → q ≡ x → r ≡ q
 fixed e f = e ∙ sym f
 
-pub build-determined : {kind command : ℕ} {ps lent : List ℕ} {r q : Built} {l m : List ℕ} → Build kind command ps lent r l → Build kind command ps lent q m → (r ≡ q) × (l ≡ m)
+pub build-determined : {kind command : ℕ} {ps lent : List ℕ} {r q : Built} {l m : List ℕ} → Build kind command ps lent r l
+    → Build kind command ps lent q m → (r ≡ q) × (l ≡ m)
 build-determined a b = (fixed (a .answer) (b .answer), fixed (a .left) (b .left))
 
-pub lay-determined : {src : List ℕ} {n : ℕ} {dst : List ℕ} {at : ℕ} {r q : Bool} {l m : List ℕ} → Laid src n dst at r l → Laid src n dst at q m → (r ≡ q) × (l ≡ m)
+pub lay-determined : {src : List ℕ} {n : ℕ} {dst : List ℕ} {at : ℕ} {r q : Bool} {l m : List ℕ} → Laid src n dst at r l
+    → Laid src n dst at q m → (r ≡ q) × (l ≡ m)
 lay-determined a b = (fixed (a .answer) (b .answer), fixed (a .left) (b .left))
 
 pub read-determined : (bytes : List ℕ) {r q : Reading} → r ≡ readingOf bytes → q ≡ readingOf bytes → r ≡ q
@@ -67,6 +69,7 @@ frame-checksum kind command ps =
     getD-at (1 ∷ counted kind command ps) sum [] 0 (length ps + 4) (omega arith)
     ∙ ap checksum (sym (take-at (counted kind command ps) (sum ∷ []) (length ps + 3) (omega arith)))
 
+-- place by place
 frame-whole : (kind command : ℕ) (ps : List ℕ) → kind ≤ 1 → Whole (frameOf kind command ps) kind command (length ps)
 unfolding frameOf
 frame-whole kind command ps h = record {
@@ -79,9 +82,6 @@ frame-whole kind command ps h = record {
   sum = frame-checksum kind command ps;
 }
 
-no : {k : Refusal} {n : ℕ} → Refused k ≡ Frame n → ⊥
-no e = let z : _≡_ {A = ℕ} 0 1 = cc in omega arith
-
 -- and the parameters stand from the fifth byte on
 pub frame-parameters : (kind command : ℕ) (ps : List ℕ) → parametersOf (frameOf kind command ps) (length ps) ≡ ps
 unfolding frameOf
@@ -90,7 +90,14 @@ frame-parameters kind command ps = take-append-seam ps (checksum (counted kind c
 -- what build accepts reads back as the same parts
 pub built-reads : (kind command : ℕ) (ps : List ℕ) → kind ≤ 1
     → (readingOf (frameOf kind command ps) ≡ Parts kind command (length ps)) × (parametersOf (frameOf kind command ps) (length ps) ≡ ps)
-built-reads kind command ps h = (whole-reads (frameOf kind command ps) kind command (length ps) (frame-whole kind command ps h), frame-parameters kind command ps)
+built-reads kind command ps h = (
+  whole-reads (frameOf kind command ps) kind command (length ps) (frame-whole kind command ps h),
+  frame-parameters kind command ps,
+)
+
+-- a refusal is no frame
+no : {k : Refusal} {n : ℕ} → Refused k ≡ Frame n → ⊥
+no e = let z : _≡_ {A = ℕ} 0 1 = cc in omega arith
 
 -- Section 3, build: accepted exactly where Type is at most 01, there are at most 252 parameters and n + 5 bytes of room; the answer is n + 5
 pub build-accepts : (kind n room m : ℕ) → builtOf kind n room ≡ Frame m → (kind ≤ 1) × (n ≤ 252) × (n + 5 ≤ room) × (m ≡ n + 5)
@@ -100,6 +107,7 @@ build-accepts kind n room m e =
     let room-left = picked-second (ltb room (n + 5)) no (short .1) in
     (ltb-false _ _ (known .0), ltb-false _ _ (short .0), ltb-false _ _ (room-left .0), sym cc)
 
+-- and so it is
 pub build-accepted : (kind n room : ℕ) → kind ≤ 1 → n ≤ 252 → n + 5 ≤ room → builtOf kind n room ≡ Frame (n + 5)
 build-accepted kind n room k l r = simp (le-ltb 1 kind k, le-ltb 252 n l, le-ltb room (n + 5) r)
 
@@ -113,9 +121,10 @@ build-reads kind command ps lent m lent′ b =
     let e : lent′ ≡ over f lent = b .left ∙ ap (λ (r : Built). leftBy r f lent) (sym (b .answer)) in
     let t : take m lent′ ≡ f = ap (take m) e ∙ take-at f (drop (length f) lent) m l in
     let r = built-reads kind command ps (a .0) in
-    (ap readingOf t ∙ r .0, ap (λ (s : List ℕ). parametersOf s (length ps)) t ∙ r .1, ap (drop m) e ∙ drop-at f (drop (length f) lent) m l ∙ ap (λ (i : ℕ). drop i lent) l)
+    let d : drop m lent′ ≡ drop m lent = ap (drop m) e ∙ drop-at f (drop (length f) lent) m l ∙ ap (λ (i : ℕ). drop i lent) l in
+    (ap readingOf t ∙ r .0, ap (λ (s : List ℕ). parametersOf s (length ps)) t ∙ r .1, d)
 
--- Section 3, read: what reads is the frame of its parts, with Type at most 01, 0 to 252 parameters where its Length is a byte, and so many as the answer says
+-- Section 3, read: what reads is the frame of its parts, with Type at most 01, so many parameters as the answer says, and at most 252 where Length is a byte
 pub read-built : (bytes : List ℕ) (kind command n : ℕ) → readingOf bytes ≡ Parts kind command n
     → (bytes ≡ frameOf kind command (parametersOf bytes n)) × (length (parametersOf bytes n) ≡ n) × (kind ≤ 1) × (getD bytes 1 0 < 256 → n ≤ 252)
 read-built bytes kind command n e =
@@ -147,7 +156,7 @@ eleven = Room ∷ Busy ∷ Kind ∷ Long ∷ Short ∷ Start ∷ Length ∷ Tail
 pub numbers : map numberOf eleven ≡ 1 ∷ 2 ∷ 3 ∷ 4 ∷ 5 ∷ 6 ∷ 7 ∷ 8 ∷ 9 ∷ 10 ∷ 11 ∷ []
 numbers = refl
 
--- each stands at its number, so there is no twelfth and no two have the same
+-- each stands at its number among the eleven
 pub number-place : (k : Refusal) → getD eleven (numberOf k - 1) Room ≡ k
 number-place Room = refl
 number-place Busy = refl
@@ -161,5 +170,6 @@ number-place Sum = refl
 number-place Form = refl
 number-place Range = refl
 
+-- so no two have the same
 pub number-injective : (k l : Refusal) → numberOf k ≡ numberOf l → k ≡ l
 number-injective k l e = sym (number-place k) ∙ ap (λ (i : ℕ). getD eleven (i - 1) Room) e ∙ number-place l

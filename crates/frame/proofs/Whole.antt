@@ -24,11 +24,13 @@ pub record Whole (bytes : List ℕ) (kind command n : ℕ) : Type 0 where
   pub size : length bytes ≡ n + 5
   pub sum : getD bytes (n + 4) 0 ≡ checksum (take (n + 3) (drop 1 bytes))
 
+-- a refusal is no frame's parts
 no : {k : Refusal} {kind command n : ℕ} → Refused k ≡ Parts kind command n → ⊥
 no e = let z : _≡_ {A = ℕ} 0 1 = cc in omega arith
 
 -- what the tests of `readingOf` say, gathered
-whole-of : (bytes : List ℕ) (kind command n : ℕ) → getD bytes 0 0 ≡ 1 → 3 ≤ getD bytes 1 0 → getD bytes 1 0 + 2 ≤ length bytes → length bytes ≤ getD bytes 1 0 + 2
+whole-of : (bytes : List ℕ) (kind command n : ℕ) → getD bytes 0 0 ≡ 1
+    → 3 ≤ getD bytes 1 0 → getD bytes 1 0 + 2 ≤ length bytes → length bytes ≤ getD bytes 1 0 + 2
     → checksum (take (getD bytes 1 0) (drop 1 bytes)) ≡ getD bytes (getD bytes 1 0 + 1) 0 → getD bytes 2 0 ≤ 1
     → Parts (getD bytes 2 0) (getD bytes 3 0) (getD bytes 1 0 - 3) ≡ Parts kind command n → Whole bytes kind command n
 whole-of bytes kind command n start long whole alone right known e =

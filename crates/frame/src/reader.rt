@@ -19,7 +19,9 @@ fn measured(bytes: &[u8], len: u8) -> Reading
 {
     let end = len as usize + 1;
     let kind = bytes[2];
-    if fold(255, &bytes[1..end]) != bytes[end] {
+    let last = bytes[end];
+    let sum = fold(255, &bytes[1..end]);
+    if sum != last {
         return Reading::Refused(Refusal::Sum);
     }
     if 1 < kind {
@@ -40,20 +42,22 @@ pub fn read(bytes: &[u8]) -> Reading
     if n == 0 {
         return Reading::Refused(Refusal::Short);
     }
-    if bytes[0] != 1 {
+    let first = bytes[0];
+    if first != 1 {
         return Reading::Refused(Refusal::Start);
     }
     if n == 1 {
         return Reading::Refused(Refusal::Short);
     }
     let length = bytes[1];
+    let whole = length as usize + 2;
     if length < 3 {
         return Reading::Refused(Refusal::Length);
     }
-    if n < length as usize + 2 {
+    if n < whole {
         return Reading::Refused(Refusal::Short);
     }
-    if length as usize + 2 < n {
+    if whole < n {
         return Reading::Refused(Refusal::Tail);
     }
     measured(bytes, length)

@@ -1,6 +1,6 @@
 -- Sections 3, 5 and 8: milliseconds, and the Set Timeouts command's ticks of 10 ms.
 -- Assumes nothing.
-use Prim.Native.Nat.{ℕ, _*_, _/_, _%_}
+use Prim.Native.Nat.{_*_, _/_, _%_}
 use lib.Dec.{ltb, eqb}
 use Rattle.frame.specs.Pick.{pick}
 use Rattle.frame.specs.declared.refusal.Refusal.the-variants as refusal

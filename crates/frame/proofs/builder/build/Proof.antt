@@ -12,7 +12,8 @@ use Rattle.frame.specs.Frame.{frameOf}
 use Rattle.frame.proofs.builder.build.Statement.{statement}
 use Rattle.frame.proofs.builder.build.Tie as tie
 
-met : (kind command : ℕ) (ps lent : List ℕ) {r : Built} {lent′ : List ℕ} → builtOf kind (length ps) (length lent) ≡ r → lent′ ≡ leftBy r (frameOf kind command ps) lent
+met : (kind command : ℕ) (ps lent : List ℕ) {r : Built} {lent′ : List ℕ} → builtOf kind (length ps) (length lent) ≡ r
+    → lent′ ≡ leftBy r (frameOf kind command ps) lent
     → Build kind command ps lent r lent′
 met kind command ps lent e l = record { answer = sym e; left = l ∙ ap (λ (b : Built). leftBy b (frameOf kind command ps) lent) (sym e) }
 
@@ -42,7 +43,9 @@ same-length c = search needs
 
 returns-4 : tie.Need-returns-4
 returns-4 c =
-    met _ _ _ _ (simp (le-ltb _ _ (c .before .before .before .before .before .before .if1 .left), le-ltb _ _ (c .before .before .before .before .before .if2 .left), le-ltb _ _ (c .before .before .before .before .if3 .left))) (c .before .before .write .ensures)
+    let tests = c .before .before .before .before in
+    met _ _ _ _ (simp (le-ltb _ _ (tests .before .before .if1 .left), le-ltb _ _ (tests .before .if2 .left), le-ltb _ _ (tests .if3 .left)))
+    (c .before .before .write .ensures)
 
 pub build-spec : {M : Type 1} → statement M
 build-spec =

@@ -5,7 +5,8 @@ use lib.ListN.{length, length-set}
 use borrow.Author.Needs.{needs}
 use denote.Ref.{now}
 use Prim.Native.Nat.{_+_, _≤_}
-use Rattle.frame.proofs.Framing.{laid-length, laid-over, framed-over}
+use Rattle.frame.proofs.Over.{laid-length}
+use Rattle.frame.proofs.Framing.{laid-over, framed-over}
 use Rattle.frame.proofs.builder.write.Statement.{statement}
 use Rattle.frame.proofs.builder.write.Tie as tie
 
@@ -40,9 +41,7 @@ part-fold-start : tie.Need-part-fold-start
 part-fold-start c = search needs
 
 part-fold-end : tie.Need-part-fold-end
-part-fold-end c =
-    let a = c .before .before .before .before .before .before .before .args in
-    omega (arith, laid-length (now (a .lent)) (now (a .parameters)) (a .kind) (a .command) (c .before .before .before .before .before .before .before .pre .1) (c .before .before .before .lay .ensures))
+part-fold-end c = omega (arith, simp length-set at (laid-length (c .before .before .before .lay .ensures)))
 
 fold-requires : tie.Need-fold-requires
 fold-requires c κs = search needs
@@ -51,14 +50,10 @@ add-lent-2 : tie.Need-add-lent-2
 add-lent-2 c = search needs
 
 slice-write-lent-5 : tie.Need-slice-write-lent-5
-slice-write-lent-5 c =
-    let a = c .before .before .before .before .before .before .before .before .before .args in
-    omega (arith, laid-length (now (a .lent)) (now (a .parameters)) (a .kind) (a .command) (c .before .before .before .before .before .before .before .before .before .pre .1) (c .before .before .before .before .before .lay .ensures))
+slice-write-lent-5 c = omega (arith, simp length-set at (laid-length (c .before .before .before .before .before .lay .ensures)))
 
 same-length : tie.Need-same-length
-same-length c =
-    let a = c .before .before .before .before .before .before .before .before .before .args in
-    simp length-set (laid-length (now (a .lent)) (now (a .parameters)) (a .kind) (a .command) (c .before .before .before .before .before .before .before .before .before .pre .1) (c .before .before .before .before .before .lay .ensures))
+same-length c = simp length-set (simp length-set at (laid-length (c .before .before .before .before .before .lay .ensures)))
 
 returns : tie.Need-returns
 returns c =

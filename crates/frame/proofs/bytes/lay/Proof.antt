@@ -1,6 +1,6 @@
 -- `frame::bytes::lay` meets its contract. The invariant: `dst` is what it was with src's first j bytes pasted in from `at`.
 -- Assumes nothing.
-use mathlib.Core.Path.{_≡_, refl, sym, ap, _∙_}
+use mathlib.Core.Path.{_≡_, refl, ap, _∙_}
 use mathlib.Core.Bool.{true, false}
 use mathlib.Core.List.{List}
 use Prim.Native.Nat.{ℕ, _≤_, _<_, _-_, _+_}
@@ -11,17 +11,25 @@ use borrow.Author.Tests.{lt-ltb, le-ltb}
 use lib.ListN.{length, length-set}
 use lib.Seq.{paste, paste-zero, paste-suc}
 use denote.Ref.{now}
-use Rattle.frame.specs.Bytes.{fits, Laid}
+use Rattle.frame.specs.Bytes.{Laid}
 use Rattle.frame.proofs.bytes.lay.Statement.{statement}
 use Rattle.frame.proofs.bytes.lay.Tie as tie
 
--- a refusal leaves everything
-unlaid : (src : List ℕ) (n : ℕ) (dst : List ℕ) (at : ℕ) → fits src n dst at ≡ false → Laid src n dst at false dst
-unlaid src n dst at e = record { answer = sym e; left = simp e }
+module _ (src : List ℕ) (n : ℕ) (dst : List ℕ) (at : ℕ) where
+  short : length src < n → Laid src n dst at false dst
+  short h = record { answer = simp (lt-ltb (length src) n h); left = simp (lt-ltb (length src) n h) }
 
--- what fits is pasted
-laid : (src : List ℕ) (n : ℕ) (dst : List ℕ) (at : ℕ) {dst′ : List ℕ} → n ≤ length src → at + n ≤ length dst → dst′ ≡ paste dst at src n → Laid src n dst at true dst′
-laid src n dst at hs hd e = record { answer = simp (le-ltb (length src) n hs, le-ltb (length dst) (at + n) hd); left = simp (le-ltb (length src) n hs, le-ltb (length dst) (at + n) hd) e }
+  outside : n ≤ length src → length dst < at + n → Laid src n dst at false dst
+  outside hs hd =
+      let s = le-ltb (length src) n hs in
+      let d = lt-ltb (length dst) (at + n) hd in
+      record { answer = simp (s, d); left = simp (s, d) }
+
+  laid : {dst′ : List ℕ} → n ≤ length src → at + n ≤ length dst → dst′ ≡ paste dst at src n → Laid src n dst at true dst′
+  laid hs hd e =
+      let s = le-ltb (length src) n hs in
+      let d = le-ltb (length dst) (at + n) hd in
+      record { answer = simp (s, d); left = simp (s, d) e }
 
 abbrev Inv-loop : tie.InvT-loop
 Inv-loop src n dst₀ at j₀ dst j = (j ≤ n) × (dst ≡ paste dst₀ at src j) × (length dst ≡ length dst₀)
@@ -30,16 +38,16 @@ abbrev μ-loop : tie.MeasureT-loop
 μ-loop src n dst₀ at j₀ dst j = n - j
 
 returns : tie.Need-returns Inv-loop μ-loop
-returns c = unlaid _ _ _ _ (simp (lt-ltb _ _ (c .if1 .taken)))
+returns c = short _ _ _ _ (c .if1 .taken)
 
 returns-2 : tie.Need-returns-2 Inv-loop μ-loop
-returns-2 c = unlaid _ _ _ _ (simp (le-ltb _ _ (c .before .if1 .left), lt-ltb (length (now (c .before .before .args .dst))) (c .before .before .args .at + c .before .before .args .n) (omega arith)))
+returns-2 c = outside _ _ _ _ (c .before .if1 .left) (omega arith)
 
 sub-if3 : tie.Need-sub-if3 Inv-loop μ-loop
 sub-if3 c = omega arith
 
 returns-3 : tie.Need-returns-3 Inv-loop μ-loop
-returns-3 c = unlaid _ _ _ _ (simp (le-ltb _ _ (c .before .before .if1 .left), lt-ltb (length (now (c .before .before .before .args .dst))) (c .before .before .before .args .at + c .before .before .before .args .n) (omega arith)))
+returns-3 c = outside _ _ _ _ (c .before .before .if1 .left) (omega arith)
 
 loop-holds : tie.Need-loop-holds Inv-loop μ-loop
 loop-holds c =

@@ -9,8 +9,8 @@ use Rattle.frame.proofs.reader.read.Tie as tie
 returns : tie.Need-returns
 returns c = simp (eq-eqb _ _ (c .if1 .taken))
 
-shared-slice-read-if2 : tie.Need-shared-slice-read-if2
-shared-slice-read-if2 c = search needs
+shared-slice-read-first : tie.Need-shared-slice-read-first
+shared-slice-read-first c = search needs
 
 returns-2 : tie.Need-returns-2
 returns-2 c = simp (ne-eqb _ _ (c .before .before .if1 .left), ne-eqb _ _ (c .if2 .taken))
@@ -21,48 +21,64 @@ returns-3 c = simp (ne-eqb _ _ (c .before .before .before .if1 .left), eq-eqb _ 
 shared-slice-read-length : tie.Need-shared-slice-read-length
 shared-slice-read-length c = search needs
 
+cast-whole : tie.Need-cast-whole
+cast-whole c = omega (arith, c .shared-slice-known3 .given 1)
+
+add-whole : tie.Need-add-whole
+add-whole c = omega (arith, c .shared-slice-known3 .given 1)
+
 returns-4 : tie.Need-returns-4
 returns-4 c = simp (ne-eqb _ _ (c .before .before .before .before .before .if1 .left), eq-eqb _ _ (c .before .before .before .if2 .left), ne-eqb _ _ (c .before .before .if3 .left), lt-ltb _ _ (c .if4 .taken))
 
-cast-if5 : tie.Need-cast-if5
-cast-if5 c = omega (arith, c .before .shared-slice-known3 .given 1)
-
-add-if5 : tie.Need-add-if5
-add-if5 c = omega (arith, c .before .shared-slice-known3 .given 1)
-
 returns-5 : tie.Need-returns-5
-returns-5 c = simp (ne-eqb _ _ (c .before .before .before .before .before .before .if1 .left), eq-eqb _ _ (c .before .before .before .before .if2 .left), ne-eqb _ _ (c .before .before .before .if3 .left), le-ltb _ _ (c .before .if4 .left), lt-ltb _ _ (c .if5 .taken))
-
-cast-if6 : tie.Need-cast-if6
-cast-if6 c = search needs
-
-add-if6 : tie.Need-add-if6
-add-if6 c = search needs
+returns-5 c =
+    simp (
+      ne-eqb _ _ (c .before .before .before .before .before .before .if1 .left),
+      eq-eqb _ _ (c .before .before .before .before .if2 .left),
+      ne-eqb _ _ (c .before .before .before .if3 .left),
+      le-ltb _ _ (c .before .if4 .left),
+      lt-ltb _ _ (c .if5 .taken),
+    )
 
 returns-6 : tie.Need-returns-6
-returns-6 c = simp (ne-eqb _ _ (c .before .before .before .before .before .before .before .if1 .left), eq-eqb _ _ (c .before .before .before .before .before .if2 .left), ne-eqb _ _ (c .before .before .before .before .if3 .left), le-ltb _ _ (c .before .before .if4 .left), le-ltb _ _ (c .before .if5 .left), lt-ltb _ _ (c .if6 .taken))
+returns-6 c =
+    simp (
+      ne-eqb _ _ (c .before .before .before .before .before .before .before .if1 .left),
+      eq-eqb _ _ (c .before .before .before .before .before .if2 .left),
+      ne-eqb _ _ (c .before .before .before .before .if3 .left),
+      le-ltb _ _ (c .before .before .if4 .left),
+      le-ltb _ _ (c .before .if5 .left),
+      lt-ltb _ _ (c .if6 .taken),
+    )
 
 measured-requires : tie.Need-measured-requires
 measured-requires c κs = search needs
 
 returns-7 : tie.Need-returns-7
-returns-7 c = simp (ne-eqb _ _ (c .before .before .before .before .before .before .before .before .if1 .left), eq-eqb _ _ (c .before .before .before .before .before .before .if2 .left), ne-eqb _ _ (c .before .before .before .before .before .if3 .left), le-ltb _ _ (c .before .before .before .if4 .left), le-ltb _ _ (c .before .before .if5 .left), le-ltb _ _ (c .before .if6 .left)) (c .measured .ensures)
+returns-7 c =
+    simp (
+      ne-eqb _ _ (c .before .before .before .before .before .before .before .before .if1 .left),
+      eq-eqb _ _ (c .before .before .before .before .before .before .if2 .left),
+      ne-eqb _ _ (c .before .before .before .before .before .if3 .left),
+      le-ltb _ _ (c .before .before .before .if4 .left),
+      le-ltb _ _ (c .before .before .if5 .left),
+      le-ltb _ _ (c .before .if6 .left),
+    )
+    (c .measured .ensures)
 
 pub read-spec : {M : Type 1} → statement M
 read-spec =
     tie.close
     (tie.spec
     returns
-    shared-slice-read-if2
+    shared-slice-read-first
     returns-2
     returns-3
     shared-slice-read-length
+    cast-whole
+    add-whole
     returns-4
-    cast-if5
-    add-if5
     returns-5
-    cast-if6
-    add-if6
     returns-6
     measured-requires
     returns-7)
