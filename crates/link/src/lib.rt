@@ -17,6 +17,7 @@ pub use hearing::Heard;
 pub use hearing::Hearing;
 pub use hearing::Partial;
 pub use hearing::Single;
+pub use hearing::hear_byte;
 pub use report::Reception;
 pub use report::Report;
 pub use report::Reset;

@@ -1,0 +1,44 @@
+-- What holds of counting over all inputs.
+-- Assumes nothing.
+use mathlib.Core.Path.{_≡_, refl, sym, _∙_}
+use mathlib.Core.List.{List, [], _∷_, _++_}
+use Prim.Native.Nat.{ℕ, _+_, _≤_}
+use native.Mathlib.Omega.{arith}
+use lib.ListN.{length}
+use Rattle.frame.proofs.Theorems.{fixed}
+use Rattle.link.specs.declared.hearing.Hearing.{Hearing}
+use Rattle.link.specs.declared.hearing.Hearing.the-variants.{Hunting}
+use Rattle.counting.specs.declared.Counts.{Counts}
+use Rattle.counting.specs.declared.Tally.{Tally}
+use Rattle.counting.specs.Counting.{countedFrom, fresh, openBytes}
+use Rattle.counting.specs.Exact.{events, behind, numbers}
+use Rattle.counting.proofs.Laws.{count-append}
+use Rattle.counting.proofs.Exact.{counted-exact}
+
+-- Section 12: each promise determines its answer.
+
+pub fresh-determined : {r q : Tally} → r ≡ fresh → q ≡ fresh → r ≡ q
+fresh-determined = fixed
+
+pub count-determined : (t : Tally) (bytes : List ℕ) {r q : Tally} → r ≡ countedFrom t bytes → q ≡ countedFrom t bytes → r ≡ q
+count-determined t bytes = fixed
+
+pub open-determined : (h : Hearing) {r q : ℕ} → r ≡ openBytes h → q ≡ openBytes h → r ≡ q
+open-determined h = fixed
+
+-- An input read in pieces is counted as if it came whole.
+pub pieces-are-whole : (t : Tally) (a b : List ℕ) → countedFrom t (a ++ b) ≡ countedFrom (countedFrom t a) b
+pieces-are-whole = count-append
+
+-- Section 9 reads at most 16,777,216 bytes. Over these each count is the number of events of its column: no count meets the largest number.
+pub counts-exact : (bytes : List ℕ) → length bytes ≤ 16777216 → countedFrom fresh bytes .counts ≡ numbers (events Hunting bytes)
+counts-exact bytes h = counted-exact bytes (omega arith)
+
+-- The example of section 9: 06 01 03 00 07 FB 55 01 02.
+pub example : countedFrom fresh (6 ∷ 1 ∷ 3 ∷ 0 ∷ 7 ∷ 251 ∷ 85 ∷ 1 ∷ 2 ∷ [])
+    ≡ record {
+      hearing = Hunting;
+      counts = record { ack = 1; nak = 0; can = 0; frames = 1; badsum = 0; badlen = 1; reserved = 0; skipped = 1 };
+    }
+unfolding countedFrom
+example = refl

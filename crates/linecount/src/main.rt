@@ -1,0 +1,114 @@
+// linecount (document 01, section 9): counts what stands in the raw bytes of standard input.
+use counting::Counts;
+use counting::Tally;
+use libc::STDERR_FILENO;
+use libc::STDIN_FILENO;
+use libc::STDOUT_FILENO;
+ghost use Rattle.linecount.specs.Reads.{Within};
+ghost use lib.ListN.{length};
+
+// At most as many bytes are counted.
+const MOST: usize = 16777216;
+
+// What one read came to. An error is never the end of the input.
+enum Got {
+    Bytes(usize),
+    End,
+    Failed,
+}
+
+// What the whole reading came to.
+enum Seen {
+    // The input ended.
+    All(Tally),
+    // MOST bytes are counted; there may be more.
+    Most(Tally),
+    Failed,
+}
+
+fn least(a: usize, b: usize) -> usize {
+    if a < b {
+        return a;
+    }
+    b
+}
+
+// One read, of at most so many bytes, to the front of buf.
+fn read_some(buf: &mut [u8], most: usize) -> Got
+    ensures { λ r. ⌜ Within most (length (now (buf .entry))) r ⌝ }
+{
+    let mut room = buf.len();
+    if most < room {
+        room = most;
+    }
+    let got = libc::read(STDIN_FILENO, &mut buf[..room]);
+    if got < 0 {
+        return Got::Failed;
+    }
+    if got == 0 {
+        return Got::End;
+    }
+    Got::Bytes(got as usize)
+}
+
+// Every turn counts at least one byte, so the loop ends.
+fn count_input(buf: &mut [u8]) -> Seen {
+    let mut tally = counting::fresh();
+    let mut left = MOST;
+    while left > 0 {
+        let got = read_some(buf, left);
+        match got {
+            Got::Failed => return Seen::Failed,
+            Got::End => return Seen::All(tally),
+            Got::Bytes(n) => {
+                tally = counting::count(tally, &buf[..n]);
+                left -= n;
+            }
+        }
+    }
+    Seen::Most(tally)
+}
+
+fn complain(sentence: &[u8]) {
+    io::write_all(STDERR_FILENO, sentence);
+}
+
+fn print_line(key: &[u8], n: u64) {
+    io::write_all(STDOUT_FILENO, key);
+    io::print_decimal(STDOUT_FILENO, n);
+    io::write_all(STDOUT_FILENO, b"\n");
+}
+
+fn print(tally: Tally, cut: u64) {
+    let counts = tally.counts;
+    print_line(b"ack=", counts.ack);
+    print_line(b"nak=", counts.nak);
+    print_line(b"can=", counts.can);
+    print_line(b"frames=", counts.frames);
+    print_line(b"badsum=", counts.badsum);
+    print_line(b"badlen=", counts.badlen);
+    print_line(b"reserved=", counts.reserved);
+    print_line(b"skipped=", counts.skipped);
+    print_line(b"open=", counting::open_bytes(tally.hearing));
+    print_line(b"cut=", cut);
+}
+
+// Only a byte behind the most shows that input remained unread.
+fn print_most(buf: &mut [u8], tally: Tally) {
+    let got = read_some(buf, 1);
+    match got {
+        Got::Bytes(_) => print(tally, 1),
+        Got::End => print(tally, 0),
+        Got::Failed => complain(b"linecount: standard input can't be read\n"),
+    }
+}
+
+fn main() {
+    let mut buf = io::large_buffer();
+    let seen = count_input(&mut buf);
+    match seen {
+        Seen::All(tally) => print(tally, 0),
+        Seen::Most(tally) => print_most(&mut buf, tally),
+        Seen::Failed => complain(b"linecount: standard input can't be read\n"),
+    }
+}
