@@ -5,6 +5,7 @@ use libc::STDERR_FILENO;
 use libc::STDIN_FILENO;
 use libc::STDOUT_FILENO;
 ghost use Rattle.linecount.specs.Reads.{Within};
+ghost use Prim.Native.Nat.{_≤_};
 ghost use lib.ListN.{length};
 
 // At most as many bytes are counted.
@@ -26,7 +27,9 @@ enum Seen {
     Failed,
 }
 
-fn least(a: usize, b: usize) -> usize {
+fn least(a: usize, b: usize) -> usize
+    ensures { λ r. ⌜ (r ≤ a) × (r ≤ b) ⌝ }
+{
     if a < b {
         return a;
     }
@@ -35,20 +38,18 @@ fn least(a: usize, b: usize) -> usize {
 
 // One read, of at most so many bytes, to the front of buf.
 fn read_some(buf: &mut [u8], most: usize) -> Got
-    ensures { λ r. ⌜ Within most (length (now (buf .entry))) r ⌝ }
+    ensures { λ r. ⌜ Within most (length (now (buf .exit))) r ⌝ }
 {
-    let mut room = buf.len();
-    if most < room {
-        room = most;
-    }
+    let room = least(most, buf.len());
     let got = libc::read(STDIN_FILENO, &mut buf[..room]);
     if got < 0 {
         return Got::Failed;
     }
-    if got == 0 {
+    let n = least(io::count(got, buf), room);
+    if n == 0 {
         return Got::End;
     }
-    Got::Bytes(got as usize)
+    Got::Bytes(n)
 }
 
 // Every turn counts at least one byte, so the loop ends.
@@ -89,7 +90,8 @@ fn print(tally: Tally, cut: u64) {
     print_line(b"badlen=", counts.badlen);
     print_line(b"reserved=", counts.reserved);
     print_line(b"skipped=", counts.skipped);
-    print_line(b"open=", counting::open_bytes(tally.hearing));
+    let hearing = tally.hearing;
+    print_line(b"open=", counting::open_bytes(hearing));
     print_line(b"cut=", cut);
 }
 
