@@ -1,3 +1,4 @@
 pub mod Laws
+pub mod Ahead
 pub mod Exact
 pub mod Theorems

@@ -4,7 +4,11 @@ use link::Event;
 use link::Hearing;
 use link::Single;
 ghost use mathlib.Core.Path.{_≡_};
+ghost use Prim.Native.Nat.{_<_, _≤_};
+ghost use lib.ListN.{length, getD};
 ghost use Rattle.counting.specs.Counting as spec;
+ghost use Rattle.counting.specs.Ahead as ahead;
+ghost use Rattle.counting.specs.Ahead.{Ahead, Onward, hunting};
 
 // How many of each, in the order printed.
 pub struct Counts {
@@ -139,6 +143,183 @@ fn count_byte(tally: Tally, b: u8) -> Tally
     }
 }
 
+// Counts part of the way through the bytes: those before `at` are counted, and the hearing hunts there.
+struct Stretch {
+    counts: Counts,
+    at: usize,
+}
+
+// The same at any place, inside a frame too.
+struct Turn {
+    tally: Tally,
+    at: usize,
+}
+
+// A byte while hunting that begins no frame.
+fn count_apart(counts: Counts, b: u8) -> Counts
+    ensures { λ r. ⌜ r ≡ spec.added (ahead.apart b) counts ⌝ }
+{
+    let mut next = counts;
+    if b == 6 {
+        next.ack = one_more(counts.ack);
+        return next;
+    }
+    if b == 21 {
+        next.nak = one_more(counts.nak);
+        return next;
+    }
+    if b == 24 {
+        next.can = one_more(counts.can);
+        return next;
+    }
+    next.skipped = one_more(counts.skipped);
+    next
+}
+
+// A frame that lies whole in the bytes, by its checksum and its Type.
+fn count_whole(counts: Counts, kind: u8, sum: u8, check: u8) -> Counts
+    ensures { λ r. ⌜ r ≡ spec.added (ahead.whole kind sum check) counts ⌝ }
+{
+    let mut next = counts;
+    if check == sum {
+        if kind < 2 {
+            next.frames = one_more(counts.frames);
+            return next;
+        }
+        next.reserved = one_more(counts.reserved);
+        return next;
+    }
+    next.badsum = one_more(counts.badsum);
+    next
+}
+
+fn count_bad_length(counts: Counts) -> Counts
+    ensures { λ r. ⌜ r ≡ spec.added 5 counts ⌝ }
+{
+    let mut next = counts;
+    next.badlen = one_more(counts.badlen);
+    next
+}
+
+// At an 01: the whole frame in one stride, its body in one loop. A frame that the bytes cut short is left where it begins.
+fn stride(counts: Counts, bytes: &[u8], i: usize) -> Stretch
+    requires { ⌜ (i < length (now bytes)) × (getD (now bytes) i 0 ≡ 1) ⌝ }
+    ensures { λ r. ⌜ Ahead (now (bytes .entry)) (hunting counts) i (hunting (r .counts)) (r .at) ⌝ }
+{
+    let first = i + 1;
+    let left = bytes.len() - i;
+    if left < 2 {
+        return Stretch {
+            counts: counts,
+            at: i,
+        };
+    }
+    let size = wide(bytes[first]);
+    if size < 3 {
+        let next = count_bad_length(counts);
+        return Stretch {
+            counts: next,
+            at: i + 2,
+        };
+    }
+    if left < size + 2 {
+        return Stretch {
+            counts: counts,
+            at: i,
+        };
+    }
+    let last = first + size;
+    let sum = frame::fold(255, &bytes[first..last]);
+    let next = count_whole(counts, bytes[i + 2], sum, bytes[last]);
+    Stretch {
+        counts: next,
+        at: last + 1,
+    }
+}
+
+fn wide(b: u8) -> usize
+    ensures { λ r. ⌜ (r ≡ b) × (r < 256) ⌝ }
+{
+    b as usize
+}
+
+// One byte while hunting, or one whole frame.
+fn step(counts: Counts, bytes: &[u8], i: usize) -> Stretch
+    requires { ⌜ i < length (now bytes) ⌝ }
+    ensures { λ r. ⌜ Ahead (now (bytes .entry)) (hunting counts) i (hunting (r .counts)) (r .at) ⌝ }
+{
+    let b = bytes[i];
+    if b == 1 {
+        return stride(counts, bytes, i);
+    }
+    let next = count_apart(counts, b);
+    Stretch {
+        counts: next,
+        at: i + 1,
+    }
+}
+
+// The counts alone, in numbers, as far as no frame is cut short: the path that nearly every byte takes.
+fn hunt(counts: Counts, bytes: &[u8], start: usize) -> Stretch
+    requires { ⌜ start ≤ length (now bytes) ⌝ }
+    ensures { λ r. ⌜ Ahead (now (bytes .entry)) (hunting counts) start (hunting (r .counts)) (r .at) ⌝ }
+{
+    let mut k = counts;
+    let mut i = start;
+    while i < bytes.len() {
+        let s = step(k, bytes, i);
+        let at = s.at;
+        if at == i {
+            return Stretch { counts: k, at: i };
+        }
+        k = s.counts;
+        i = at;
+    }
+    Stretch { counts: k, at: i }
+}
+
+// One byte, as the link hears it, wherever the hearing stands.
+fn single(tally: Tally, bytes: &[u8], i: usize) -> Turn
+    requires { ⌜ i < length (now bytes) ⌝ }
+    ensures { λ r. ⌜ Onward (now (bytes .entry)) tally i (r .tally) (r .at) ⌝ }
+{
+    let next = count_byte(tally, bytes[i]);
+    Turn {
+        tally: next,
+        at: i + 1,
+    }
+}
+
+// While hunting: as far as no frame is cut short, and there one byte.
+fn hunt_on(counts: Counts, bytes: &[u8], i: usize) -> Turn
+    requires { ⌜ i < length (now bytes) ⌝ }
+    ensures { λ r. ⌜ Onward (now (bytes .entry)) (hunting counts) i (r .tally) (r .at) ⌝ }
+{
+    let s = hunt(counts, bytes, i);
+    let at = s.at;
+    let k = s.counts;
+    let t = Tally {
+        hearing: Hearing::Hunting,
+        counts: k,
+    };
+    if at < bytes.len() {
+        return single(t, bytes, at);
+    }
+    Turn { tally: t, at: at }
+}
+
+fn turned(tally: Tally, bytes: &[u8], i: usize) -> Turn
+    requires { ⌜ i < length (now bytes) ⌝ }
+    ensures { λ r. ⌜ Onward (now (bytes .entry)) tally i (r .tally) (r .at) ⌝ }
+{
+    let hearing = tally.hearing;
+    match hearing {
+        Hearing::Hunting => hunt_on(tally.counts, bytes, i),
+        Hearing::Head { clock: _ } => single(tally, bytes, i),
+        Hearing::Body(_) => single(tally, bytes, i),
+    }
+}
+
 // The tally after these bytes.
 pub fn count(tally: Tally, bytes: &[u8]) -> Tally
     ensures { λ r. ⌜ r ≡ spec.countedFrom tally (now (bytes .entry)) ⌝ }
@@ -146,8 +327,9 @@ pub fn count(tally: Tally, bytes: &[u8]) -> Tally
     let mut t = tally;
     let mut i = 0;
     while i < bytes.len() {
-        t = count_byte(t, bytes[i]);
-        i += 1;
+        let next = turned(t, bytes, i);
+        t = next.tally;
+        i = next.at;
     }
     t
 }

@@ -1,68 +1,51 @@
-use borrow.Author.Tests.{eq-eqb, ne-eqb, lt-ltb, le-ltb, le-leb, lt-leb}
+-- `counting::count_end` meets its contract, case by case.
+-- Assumes nothing.
 use borrow.Author.Needs.{needs}
 use Rattle.counting.proofs.count_end.Statement.{statement}
 use Rattle.counting.proofs.count_end.Tie as tie
-use Rattle.counting.proofs.count_end.Reads as reads
-use Rattle.counting.proofs.count_end.Lts as lts
-use Rattle.counting.proofs.one_more.Reads as one-more-reads
 
--- src/lib.rt:84:13
 enum-told : tie.Need-enum-told
 enum-told c = search needs
 
--- src/lib.rt:84:13
 one-more-requires : tie.Need-one-more-requires
 one-more-requires c κs = search needs
 
--- src/lib.rt:88:13
 enum-told-2 : tie.Need-enum-told-2
 enum-told-2 c = search needs
 
--- src/lib.rt:88:13
 one-more-requires-2 : tie.Need-one-more-requires-2
 one-more-requires-2 c κs = search needs
 
--- src/lib.rt:92:13
 enum-told-3 : tie.Need-enum-told-3
 enum-told-3 c = search needs
 
--- src/lib.rt:92:13
 one-more-requires-3 : tie.Need-one-more-requires-3
 one-more-requires-3 c κs = search needs
 
--- src/lib.rt:96:13
 enum-told-4 : tie.Need-enum-told-4
 enum-told-4 c = search needs
 
--- src/lib.rt:96:13
 one-more-requires-4 : tie.Need-one-more-requires-4
 one-more-requires-4 c κs = search needs
 
--- src/lib.rt:100:13
 enum-told-5 : tie.Need-enum-told-5
 enum-told-5 c = search needs
 
--- src/lib.rt:100:13
 one-more-requires-5 : tie.Need-one-more-requires-5
 one-more-requires-5 c κs = search needs
 
--- src/lib.rt:78:1
 returns : tie.Need-returns
 returns c = simp (c .before .enum-told .given .1, c .one-more .ensures)
 
--- src/lib.rt:78:1
 returns-2 : tie.Need-returns-2
 returns-2 c = simp (c .before .enum-told2 .given .1, c .one-more2 .ensures)
 
--- src/lib.rt:78:1
 returns-3 : tie.Need-returns-3
 returns-3 c = simp (c .before .enum-told3 .given .1, c .one-more3 .ensures)
 
--- src/lib.rt:78:1
 returns-4 : tie.Need-returns-4
 returns-4 c = simp (c .before .enum-told4 .given .1, c .one-more4 .ensures)
 
--- src/lib.rt:78:1
 returns-5 : tie.Need-returns-5
 returns-5 c = simp (c .before .enum-told5 .given .1, c .one-more5 .ensures)
 

@@ -1,86 +1,63 @@
-use borrow.Author.Tests.{eq-eqb, ne-eqb, lt-ltb, le-ltb, le-leb, lt-leb}
+-- `counting::count_event` meets its contract, case by case.
+-- Assumes nothing.
 use borrow.Author.Needs.{needs}
 use Rattle.counting.proofs.count_event.Statement.{statement}
 use Rattle.counting.proofs.count_event.Tie as tie
-use Rattle.counting.proofs.count_event.Reads as reads
-use Rattle.counting.proofs.count_event.Lts as lts
-use Rattle.counting.proofs.count_end.Reads as count-end-reads
-use Rattle.counting.proofs.count_single.Reads as count-single-reads
-use Rattle.counting.proofs.one_more.Reads as one-more-reads
 
--- src/lib.rt:110:22
 enum-known-event : tie.Need-enum-known-event
 enum-known-event c = search needs
 
--- src/lib.rt:110:33
 count-single-requires : tie.Need-count-single-requires
 count-single-requires c κs = search needs
 
--- src/lib.rt:111:22
 enum-known-event-2 : tie.Need-enum-known-event-2
 enum-known-event-2 c = search needs
 
--- src/lib.rt:111:30
 count-end-requires : tie.Need-count-end-requires
 count-end-requires c κs = search needs
 
--- src/lib.rt:113:17
 enum-told : tie.Need-enum-told
 enum-told c = search needs
 
--- src/lib.rt:114:13
 one-more-requires : tie.Need-one-more-requires
 one-more-requires c κs = search needs
 
--- src/lib.rt:117:26
 enum-told-2 : tie.Need-enum-told-2
 enum-told-2 c = search needs
 
--- src/lib.rt:118:34
 enum-told-3 : tie.Need-enum-told-3
 enum-told-3 c = search needs
 
--- src/lib.rt:119:31
 enum-told-4 : tie.Need-enum-told-4
 enum-told-4 c = search needs
 
--- src/lib.rt:120:30
 enum-told-5 : tie.Need-enum-told-5
 enum-told-5 c = search needs
 
--- src/lib.rt:121:27
 enum-told-6 : tie.Need-enum-told-6
 enum-told-6 c = search needs
 
--- src/lib.rt:106:1
 returns : tie.Need-returns
 returns c = simp (c .before .before .event .given .1, c .count-single .ensures)
 
--- src/lib.rt:106:1
 returns-2 : tie.Need-returns-2
 returns-2 c = simp (c .before .before .event2 .given .1, c .count-end .ensures)
 
--- src/lib.rt:106:1
 returns-3 : tie.Need-returns-3
 returns-3 c = simp (c .before .enum-told .given .1, c .one-more .ensures)
 
--- src/lib.rt:106:1
 returns-4 : tie.Need-returns-4
 returns-4 c = simp (c .enum-told2 .given .1)
 
--- src/lib.rt:106:1
 returns-5 : tie.Need-returns-5
 returns-5 c = simp (c .enum-told3 .given .1)
 
--- src/lib.rt:106:1
 returns-6 : tie.Need-returns-6
 returns-6 c = simp (c .enum-told4 .given .1)
 
--- src/lib.rt:106:1
 returns-7 : tie.Need-returns-7
 returns-7 c = simp (c .enum-told5 .given .1)
 
--- src/lib.rt:106:1
 returns-8 : tie.Need-returns-8
 returns-8 c = simp (c .enum-told6 .given .1)
 

@@ -1,44 +1,33 @@
-use borrow.Author.Tests.{eq-eqb, ne-eqb, lt-ltb, le-ltb, le-leb, lt-leb}
+-- `counting::count_single` meets its contract, case by case.
+-- Assumes nothing.
 use borrow.Author.Needs.{needs}
 use Rattle.counting.proofs.count_single.Statement.{statement}
 use Rattle.counting.proofs.count_single.Tie as tie
-use Rattle.counting.proofs.count_single.Reads as reads
-use Rattle.counting.proofs.count_single.Lts as lts
-use Rattle.counting.proofs.one_more.Reads as one-more-reads
 
--- src/lib.rt:64:13
 enum-told : tie.Need-enum-told
 enum-told c = search needs
 
--- src/lib.rt:64:13
 one-more-requires : tie.Need-one-more-requires
 one-more-requires c κs = search needs
 
--- src/lib.rt:68:13
 enum-told-2 : tie.Need-enum-told-2
 enum-told-2 c = search needs
 
--- src/lib.rt:68:13
 one-more-requires-2 : tie.Need-one-more-requires-2
 one-more-requires-2 c κs = search needs
 
--- src/lib.rt:72:13
 enum-told-3 : tie.Need-enum-told-3
 enum-told-3 c = search needs
 
--- src/lib.rt:72:13
 one-more-requires-3 : tie.Need-one-more-requires-3
 one-more-requires-3 c κs = search needs
 
--- src/lib.rt:58:1
 returns : tie.Need-returns
 returns c = simp (c .before .enum-told .given .1, c .one-more .ensures)
 
--- src/lib.rt:58:1
 returns-2 : tie.Need-returns-2
 returns-2 c = simp (c .before .enum-told2 .given .1, c .one-more2 .ensures)
 
--- src/lib.rt:58:1
 returns-3 : tie.Need-returns-3
 returns-3 c = simp (c .before .enum-told3 .given .1, c .one-more3 .ensures)
 

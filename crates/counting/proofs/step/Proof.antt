@@ -1,0 +1,33 @@
+-- `counting::step` meets its contract: a whole frame, or a byte while hunting.
+-- Assumes nothing.
+use Prim.Native.Nat.{_-_}
+use borrow.Author.Needs.{needs}
+use denote.Ref.{now}
+use Rattle.counting.proofs.Ahead.{apart-at, counts-are}
+use Rattle.counting.proofs.step.Statement.{statement}
+use Rattle.counting.proofs.step.Tie as tie
+
+shared-slice-read-b : tie.Need-shared-slice-read-b
+shared-slice-read-b c = search needs
+
+stride-requires : tie.Need-stride-requires
+stride-requires c κs = search needs
+
+returns : tie.Need-returns
+returns c = search needs
+
+count-apart-requires : tie.Need-count-apart-requires
+count-apart-requires c κs = search needs
+
+add-t9 : tie.Need-add-t9
+add-t9 c = search needs
+
+returns-2 : tie.Need-returns-2
+returns-2 c =
+    let s = c .before .before .before .before in
+    counts-are (c .count-apart .ensures) (apart-at (now (s .args .bytes)) (s .args .i) (s .args .counts) (s .pre) (c .before .if1 .left))
+
+pub step-spec : {M : Type 1} → statement M
+step-spec =
+    tie.close
+    (tie.spec shared-slice-read-b stride-requires returns count-apart-requires add-t9 returns-2)
