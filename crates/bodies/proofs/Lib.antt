@@ -1,3 +1,4 @@
 pub mod Masks
 pub mod Layouts
 pub mod Lists
+pub mod Setting

@@ -41,5 +41,5 @@ filled body lent lent′ n w =
     let count : n ≡ length (nodesOf body) = w .count ∙ ap length same in
     record {
       answer = ap₂ (λ (k i : ℕ). Answer (getD body 2 0) (getD body 3 0) k (getD body (getD body 4 0 + 5) 0) (getD body i 0)) count last;
-      left = w .left ∙ ap (λ (nodes : List ℕ). over nodes lent) same
+      left = w .left ∙ ap (λ (nodes : List ℕ). over nodes lent) same;
     }

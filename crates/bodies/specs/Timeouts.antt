@@ -37,9 +37,9 @@ pub record SetTimeouts (rxack rxbyte : Millis) (lent : List ℕ) (r : Built) (le
   pub answer : r ≡ setOf (convertedOf rxack) (convertedOf rxbyte) (length lent)
   pub left : lent′
       ≡ leftBy
-          (setOf (convertedOf rxack) (convertedOf rxbyte) (length lent))
-          (frameOf 0 6 (ticksFor (convertedOf rxack) (convertedOf rxbyte)))
-          lent
+      (setOf (convertedOf rxack) (convertedOf rxbyte) (length lent))
+      (frameOf 0 6 (ticksFor (convertedOf rxack) (convertedOf rxbyte)))
+      lent
 
 abbrev pub isOldTimeouts : List ℕ → Bool
 isOldTimeouts body = pick (answers body 6) (eqb (length body) 4) false

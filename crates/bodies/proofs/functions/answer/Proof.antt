@@ -84,8 +84,8 @@ returns c =
     let body = now (s .args .body) in
     let few : length (functionMask body) ≤ 32 = omega (arith, length-drop 10 body) in
     let count : c .ones .result ≡ supported body =
-        c .ones .ensures ∙ ap onesIn (rest 10 body)
-        ∙ ones-supported (functionMask body) (bytes-from 10 body (λ i. c .before .before .before .before .before .before .before .before .before .before .before .before .before .shared-slice-known .given i .fits)) few (s .pre .clear) in
+    c .ones .ensures ∙ ap onesIn (rest 10 body)
+    ∙ ones-supported (functionMask body) (bytes-from 10 body (λ i. c .before .before .before .before .before .before .before .before .before .before .before .before .before .shared-slice-known .given i .fits)) few (s .pre .clear) in
     cc (count, c .before .before .joined3 .ensures, c .before .before .before .before .before .joined2 .ensures, c .before .before .before .before .before .before .before .before .joined .ensures)
 
 pub answer-spec : {M : Type 1} → statement M

@@ -52,11 +52,10 @@ loop-less c = omega arith
 loop-again : tie.Need-loop-again Inv-loop μ-loop
 loop-again c =
     let l = c .before .before .loop in
-    let mask = now (c .before .before .before .args .mask) in
-    (
+    let mask = now (c .before .before .before .args .mask) in (
       omega arith,
       l .inv .1 ∙ ap (λ (x : ℕ). l .n + x) (ones-more mask (l .i) (c .before .loop-test .taken))
-      ∙ sym (add-assoc (l .n) (ones (getD mask (l .i) 0)) (onesIn (drop (l .i + 1) mask))),
+          ∙ sym (add-assoc (l .n) (ones (getD mask (l .i) 0)) (onesIn (drop (l .i + 1) mask))),
       omega (arith, few c),
     )
 

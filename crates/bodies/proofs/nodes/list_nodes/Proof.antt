@@ -64,8 +64,7 @@ loop-again c =
     let mask = now (s .args .mask) in
     let lent = now (s .args .list) in
     let e = sym (c .before .is-marked .ensures) ∙ c .if1 .taken in
-    let room : length (marked mask (l .k)) < length lent = omega (arith, marked-le mask (l .k)) in
-    (
+    let room : length (marked mask (l .k)) < length lent = omega (arith, marked-le mask (l .k)) in (
       omega arith,
       listed-count mask lent (l .list) (l .n) (l .k) (l .inv .1) (l .inv .2) e,
       listed-left mask lent (l .list) (l .n) (l .k) (l .inv .1) (l .inv .2) room e,
@@ -82,8 +81,7 @@ loop-again-2 c =
     let s = c .before .before .before .before .before .before in
     let l = c .before .before .before .loop in
     let mask = now (s .args .mask) in
-    let e = passed mask (l .k) (sym (c .before .is-marked .ensures) ∙ c .if1 .left) in
-    (
+    let e = passed mask (l .k) (sym (c .before .is-marked .ensures) ∙ c .if1 .left) in (
       omega arith,
       l .inv .1 ∙ ap length e,
       l .inv .2 ∙ ap (λ (nodes : List ℕ). over nodes (now (s .args .list))) e,
@@ -101,7 +99,7 @@ returns c =
     let k : l .k ≡ 232 = omega arith in
     record {
       count = l .inv .1 ∙ ap (λ (x : ℕ). length (marked (now (c .before .before .before .before .args .mask)) x)) k;
-      left = l .inv .2 ∙ ap (λ (x : ℕ). over (marked (now (c .before .before .before .before .args .mask)) x) (now (c .before .before .before .before .args .list))) k
+      left = l .inv .2 ∙ ap (λ (x : ℕ). over (marked (now (c .before .before .before .before .args .mask)) x) (now (c .before .before .before .before .args .list))) k;
     }
 
 pub list-nodes-spec : {M : Type 1} → statement M

@@ -32,9 +32,9 @@ returns-2 c =
 -- src/nodes.rt:81:5
 fill-requires : tie.Need-fill-requires
 fill-requires c κs = (
-      c .before .before .before .if1 .left,
-      of-node-list (now (c .before .before .before .before .before .before .args .body)) (sym (c .before .before .is-node-list .ensures) ∙ not-false _ (c .before .if2 .left)),
-    )
+  c .before .before .before .if1 .left,
+  of-node-list (now (c .before .before .before .before .before .before .args .body)) (sym (c .before .before .is-node-list .ensures) ∙ not-false _ (c .before .if2 .left)),
+)
 
 -- src/nodes.rt:72:1
 same-length : tie.Need-same-length
