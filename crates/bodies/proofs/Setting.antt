@@ -18,20 +18,23 @@ use Rattle.units.specs.declared.Converted.the-variants.{Refused, Ticks}
 use Rattle.bodies.specs.Timeouts.{ticksFor, setOf, SetTimeouts}
 
 module _ (rxack rxbyte : Millis) (lent : List ℕ) where
-  by-parts : (x y : Converted) (r : Built) (lent′ : List ℕ) → convertedOf rxack ≡ x → convertedOf rxbyte ≡ y
-      → r ≡ setOf x y (length lent) → lent′ ≡ leftBy (setOf x y (length lent)) (frameOf 0 6 (ticksFor x y)) lent → SetTimeouts rxack rxbyte lent r lent′
-  by-parts x y r lent′ p q answer left = record {
-    answer = answer ∙ sym (ap₂ (λ (x y : Converted). setOf x y (length lent)) p q);
-    left = left ∙ sym (ap₂ (λ (x y : Converted). leftBy (setOf x y (length lent)) (frameOf 0 6 (ticksFor x y)) lent) p q);
-  }
+  -- the answer and the lent bytes, by what became of the two times
+  pub set-answer : (x y : Converted) → convertedOf rxack ≡ x → convertedOf rxbyte ≡ y → setOf (convertedOf rxack) (convertedOf rxbyte) (length lent) ≡ setOf x y (length lent)
+  set-answer x y p q = ap₂ (λ (x y : Converted). setOf x y (length lent)) p q
+
+  pub set-left : (x y : Converted) → convertedOf rxack ≡ x → convertedOf rxbyte ≡ y
+      → leftBy (setOf (convertedOf rxack) (convertedOf rxbyte) (length lent)) (frameOf 0 6 (ticksFor (convertedOf rxack) (convertedOf rxbyte))) lent
+      ≡ leftBy (setOf x y (length lent)) (frameOf 0 6 (ticksFor x y)) lent
+  set-left x y p q = ap₂ (λ (x y : Converted). leftBy (setOf x y (length lent)) (frameOf 0 6 (ticksFor x y)) lent) p q
 
   pub first-refused : (k : Refusal) → convertedOf rxack ≡ Refused k → SetTimeouts rxack rxbyte lent (built.Refused refusal.Range) lent
-  first-refused k p = by-parts (Refused k) (convertedOf rxbyte) (built.Refused refusal.Range) lent p refl refl refl
+  first-refused k p = record { answer = sym (set-answer (Refused k) (convertedOf rxbyte) p refl); left = sym (set-left (Refused k) (convertedOf rxbyte) p refl) }
 
   pub second-refused : (a : Ticks10) (k : Refusal) → convertedOf rxack ≡ Ticks a → convertedOf rxbyte ≡ Refused k
       → SetTimeouts rxack rxbyte lent (built.Refused refusal.Range) lent
-  second-refused a k p q = by-parts (Ticks a) (Refused k) (built.Refused refusal.Range) lent p q refl refl
+  second-refused a k p q = record { answer = sym (set-answer (Ticks a) (Refused k) p q); left = sym (set-left (Ticks a) (Refused k) p q) }
 
   pub both-taken : (a b : Ticks10) (r : Built) (lent′ : List ℕ) → convertedOf rxack ≡ Ticks a → convertedOf rxbyte ≡ Ticks b
       → Build 0 6 (a .0 ∷ b .0 ∷ []) lent r lent′ → SetTimeouts rxack rxbyte lent r lent′
-  both-taken a b r lent′ p q e = by-parts (Ticks a) (Ticks b) r lent′ p q (e .answer) (e .left)
+  both-taken a b r lent′ p q e =
+      record { answer = e .answer ∙ sym (set-answer (Ticks a) (Ticks b) p q); left = e .left ∙ sym (set-left (Ticks a) (Ticks b) p q) }

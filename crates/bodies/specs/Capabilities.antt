@@ -3,10 +3,11 @@
 use Prim.Native.Nat.{ℕ, _≤_}
 use mathlib.Core.Path.{_≡_}
 use mathlib.Core.Bool.{Bool, true, false}
-use mathlib.Core.List.{List}
+use mathlib.Core.List.{List, [], _∷_}
 use lib.Dec.{ltb}
 use lib.ListN.{length, getD, drop}
 use Rattle.frame.specs.Pick.{pick}
+use Rattle.frame.specs.Refusals.{numberOf}
 use Rattle.frame.specs.declared.refusal.Refusal.the-variants as refusal
 use Rattle.bodies.specs.Response.{answers, word}
 use Rattle.bodies.specs.Mask.{marks, marked}
@@ -48,8 +49,19 @@ answerOf body =
     (word (getD body 8 0) (getD body 9 0))
     (supported body)
 
+-- the number of the refusal; of an answer 0 and its values
+abbrev pub capabilitiesTold : Capabilities → List ℕ
+capabilitiesTold (capabilities.Refused k) = numberOf k ∷ []
+capabilitiesTold (capabilities.Answer v r m t i n) = 0 ∷ v ∷ r ∷ m ∷ t ∷ i ∷ n ∷ []
+
 abbrev pub capabilitiesOf : List ℕ → Capabilities
 capabilitiesOf body = pick (isCapabilities body) (answerOf body) (capabilities.Refused refusal.Form)
+
+-- the number of the refusal; 0, and 1 for supported
+abbrev pub supportTold : Support → List ℕ
+supportTold (support.Refused k) = numberOf k ∷ []
+supportTold support.Supported = 0 ∷ 1 ∷ []
+supportTold support.Unsupported = 0 ∷ 0 ∷ []
 
 -- one function of a body
 abbrev pub supportOf : List ℕ → ℕ → Support

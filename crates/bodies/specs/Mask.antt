@@ -1,7 +1,7 @@
 -- Section 8: function f, or node f, is bit (f − 1) mod 8 of mask byte (f − 1) div 8. Not covered, or f = 0, is unsupported.
 -- Assumes nothing.
-use Prim.Native.Nat.{ℕ, zero, suc, _+_, _-_, _/_, _%_, _^_}
-use mathlib.Core.Bool.{Bool, true, false}
+use Prim.Native.Nat.{ℕ, zero, suc, _+_, _-_, _/_, _%_, _^_, _<_}
+use mathlib.Core.Bool.{Bool, false}
 use mathlib.Core.List.{List, [], _∷_, _++_}
 use lib.Count.{ones}
 use lib.Dec.{eqb}
@@ -28,3 +28,11 @@ marked mask (suc n) = marked mask n ++ pick (marks mask (suc n)) (suc n ∷ []) 
 unfoldable pub onesIn : List ℕ → ℕ
 onesIn [] = 0
 onesIn (byte ∷ mask) = ones byte + onesIn mask
+
+-- each is above every one before it: rising, and none twice
+abbrev pub Rising : List ℕ → Type 0
+Rising l = (i j : ℕ) → i < j → j < length l → getD l i 0 < getD l j 0
+
+-- a list of bytes
+abbrev pub Bytes : List ℕ → Type 0
+Bytes l = (i : ℕ) → getD l i 0 < 256

@@ -3,11 +3,12 @@
 use Prim.Native.Nat.{ℕ, _+_, _≤_}
 use mathlib.Core.Path.{_≡_}
 use mathlib.Core.Bool.{Bool, false}
-use mathlib.Core.List.{List}
+use mathlib.Core.List.{List, [], _∷_}
 use lib.Dec.{ltb, eqb}
 use lib.ListN.{length, getD, take, drop}
 use Rattle.frame.specs.Pick.{pick}
 use Rattle.frame.specs.Bytes.{over}
+use Rattle.frame.specs.Refusals.{numberOf}
 use Rattle.frame.specs.declared.refusal.Refusal.the-variants as refusal
 use Rattle.bodies.specs.Response.{answers}
 use Rattle.bodies.specs.Mask.{marked}
@@ -33,8 +34,8 @@ nodeMask body = take (getD body 4 0) (drop 5 body)
 abbrev pub nodesOf : List ℕ → List ℕ
 nodesOf body = marked (nodeMask body) 232
 
-abbrev pub answerOf : List ℕ → NodeList
-answerOf body =
+abbrev pub nodeAnswer : List ℕ → NodeList
+nodeAnswer body =
     Answer
     (getD body 2 0)
     (getD body 3 0)
@@ -42,11 +43,16 @@ answerOf body =
     (getD body (getD body 4 0 + 5) 0)
     (getD body (getD body 4 0 + 6) 0)
 
+-- the number of the refusal; of an answer 0 and its values
+abbrev pub nodesTold : NodeList → List ℕ
+nodesTold (Refused k) = numberOf k ∷ []
+nodesTold (Answer v c n t u) = 0 ∷ v ∷ c ∷ n ∷ t ∷ u ∷ []
+
 -- ROOM before FORM; the list needs room for 232
 abbrev pub nodeListOf : List ℕ → ℕ → NodeList
 nodeListOf body room =
     pick (ltb room 232) (Refused refusal.Room)
-    (pick (isNodeList body) (answerOf body) (Refused refusal.Form))
+    (pick (isNodeList body) (nodeAnswer body) (Refused refusal.Form))
 
 -- the lent list after the call
 abbrev pub leftBy : NodeList → List ℕ → List ℕ → List ℕ
@@ -64,7 +70,7 @@ pub record OfNodeList (body : List ℕ) : Type 0 where
 
 -- what is answered and written of a body of one of the layouts
 pub record Filled (body lent : List ℕ) (r : NodeList) (lent′ : List ℕ) : Type 0 where
-  pub answer : r ≡ answerOf body
+  pub answer : r ≡ nodeAnswer body
   pub left : lent′ ≡ over (nodesOf body) lent
 
 -- what the loop over a mask writes and answers

@@ -1,7 +1,7 @@
 -- Section 8: a body as handed up is Type, Command, parameters. One of another Type, Command, size or count byte is FORM.
 -- Assumes nothing.
 use Prim.Native.Nat.{ℕ, _+_, _*_}
-use mathlib.Core.Bool.{Bool, true, false}
+use mathlib.Core.Bool.{Bool, false}
 use mathlib.Core.List.{List}
 use lib.Dec.{ltb, eqb}
 use lib.ListN.{length, getD}

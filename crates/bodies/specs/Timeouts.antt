@@ -10,6 +10,7 @@ use lib.ListN.{length, getD}
 use Rattle.frame.specs.Pick.{pick}
 use Rattle.frame.specs.Frame.{frameOf}
 use Rattle.frame.specs.Builder.{builtOf, leftBy}
+use Rattle.frame.specs.Refusals.{numberOf}
 use Rattle.frame.specs.declared.refusal.Refusal.the-variants as refusal
 use Rattle.frame.specs.declared.builder.Built.{Built}
 use Rattle.frame.specs.declared.builder.Built.the-variants as built
@@ -33,6 +34,11 @@ setOf (converted.Refused k) b room = built.Refused refusal.Range
 setOf (converted.Ticks a) (converted.Refused k) room = built.Refused refusal.Range
 setOf (converted.Ticks a) (converted.Ticks b) room = builtOf 0 2 room
 
+-- the number of the refusal; of a frame 0 and its length
+abbrev pub setTold : Built → List ℕ
+setTold (built.Refused k) = numberOf k ∷ []
+setTold (built.Frame n) = 0 ∷ n ∷ []
+
 pub record SetTimeouts (rxack rxbyte : Millis) (lent : List ℕ) (r : Built) (lent′ : List ℕ) : Type 0 where
   pub answer : r ≡ setOf (convertedOf rxack) (convertedOf rxbyte) (length lent)
   pub left : lent′
@@ -47,6 +53,11 @@ isOldTimeouts body = pick (answers body 6) (eqb (length body) 4) false
 -- a parameter, in ticks of 10 ms
 abbrev pub timeAt : List ℕ → ℕ → Millis
 timeAt body k = millisOf (record { 0 = getD body k 0 })
+
+-- the number of the refusal; of an answer 0 and its values, in milliseconds
+abbrev pub oldTold : OldTimeouts → List ℕ
+oldTold (old.Refused k) = numberOf k ∷ []
+oldTold (old.Were a b) = 0 ∷ a .0 ∷ b .0 ∷ []
 
 abbrev pub oldTimeoutsOf : List ℕ → OldTimeouts
 oldTimeoutsOf body =

@@ -1,9 +1,9 @@
 -- `answer` meets its contract: the ones summed are the number of supported functions.
 -- Assumes nothing.
 use mathlib.Core.Path.{_≡_, ap, _∙_}
-use Prim.Native.Nat.{ℕ, _≤_}
+use Prim.Native.Nat.{_≤_}
 use native.Mathlib.Omega.{arith}
-use lib.ListN.{length, drop, length-drop}
+use lib.ListN.{length, length-drop}
 use denote.Ref.{now}
 use Rattle.bodies.specs.Mask.{onesIn}
 use Rattle.bodies.specs.Capabilities.{functionMask, supported}
@@ -12,72 +12,52 @@ use Rattle.bodies.proofs.Masks.{ones-supported}
 use borrow.Author.Needs.{needs}
 use Rattle.bodies.proofs.functions.answer.Statement.{statement}
 use Rattle.bodies.proofs.functions.answer.Tie as tie
-use Rattle.bodies.proofs.functions.answer.Reads as reads
-use Rattle.bodies.proofs.functions.answer.Lts as lts
-use Rattle.bodies.proofs.functions.joined.Reads as joined-reads
-use Rattle.bodies.proofs.mask.ones.Reads as ones-reads
 
--- src/functions.rt:61:18
 shared-slice-read-t3 : tie.Need-shared-slice-read-t3
 shared-slice-read-t3 c = search needs
 
--- src/functions.rt:62:19
 shared-slice-read-t5 : tie.Need-shared-slice-read-t5
 shared-slice-read-t5 c = search needs
 
--- src/functions.rt:63:30
 shared-slice-read-joined : tie.Need-shared-slice-read-joined
 shared-slice-read-joined c = search needs
 
--- src/functions.rt:63:39
 shared-slice-read-joined-2 : tie.Need-shared-slice-read-joined-2
 shared-slice-read-joined-2 c = search needs
 
--- src/functions.rt:63:23
 joined-requires : tie.Need-joined-requires
 joined-requires c κs = search needs
 
--- src/functions.rt:64:30
 shared-slice-read-joined-3 : tie.Need-shared-slice-read-joined-3
 shared-slice-read-joined-3 c = search needs
 
--- src/functions.rt:64:39
 shared-slice-read-joined-4 : tie.Need-shared-slice-read-joined-4
 shared-slice-read-joined-4 c = search needs
 
--- src/functions.rt:64:23
 joined-requires-2 : tie.Need-joined-requires-2
 joined-requires-2 c κs = search needs
 
--- src/functions.rt:65:28
 shared-slice-read-joined-5 : tie.Need-shared-slice-read-joined-5
 shared-slice-read-joined-5 c = search needs
 
--- src/functions.rt:65:37
 shared-slice-read-joined-6 : tie.Need-shared-slice-read-joined-6
 shared-slice-read-joined-6 c = search needs
 
--- src/functions.rt:65:21
 joined-requires-3 : tie.Need-joined-requires-3
 joined-requires-3 c κs = search needs
 
--- src/functions.rt:66:25
 sub-ones : tie.Need-sub-ones
 sub-ones c = search needs
 
--- src/functions.rt:66:25
 part-ones-start : tie.Need-part-ones-start
 part-ones-start c = search needs
 
--- src/functions.rt:66:25
 part-ones-end : tie.Need-part-ones-end
 part-ones-end c = search needs
 
--- src/functions.rt:66:20
 ones-requires : tie.Need-ones-requires
 ones-requires c κs = search needs
 
--- src/functions.rt:56:1
 returns : tie.Need-returns
 returns c =
     let s = c .before .before .before .before .before .before .before .before .before .before .before .before .before .before in

@@ -1,4 +1,6 @@
-use borrow.Author.Tests.{eq-eqb, ne-eqb, lt-ltb, le-ltb, not-true, not-false, le-leb, lt-leb}
+-- `is_capabilities` meets its contract: each return by the tests that led there.
+-- Assumes nothing.
+use borrow.Author.Tests.{lt-ltb, le-ltb, not-true, not-false}
 use mathlib.Core.Path.{_≡_, ap, sym, _∙_}
 use mathlib.Core.Bool.{Bool}
 use mathlib.Core.List.{List}
@@ -10,51 +12,37 @@ use Rattle.bodies.proofs.Layouts.{rest}
 use borrow.Author.Needs.{needs}
 use Rattle.bodies.proofs.functions.is_capabilities.Statement.{statement}
 use Rattle.bodies.proofs.functions.is_capabilities.Tie as tie
-use Rattle.bodies.proofs.functions.is_capabilities.Reads as reads
-use Rattle.bodies.proofs.functions.is_capabilities.Lts as lts
-use Rattle.bodies.proofs.mask.is_marked.Reads as is-marked-reads
-use Rattle.bodies.proofs.response.is_response.Reads as is-response-reads
 
 clear : (body : List ℕ) {t : Bool} → marks (take (length body - 10) (drop 10 body)) 256 ≡ t → marks (drop 10 body) 256 ≡ t
 clear body e = ap (λ (mask : List ℕ). marks mask 256) (sym (rest 10 body)) ∙ e
 
--- src/functions.rt:40:9
 is-response-requires : tie.Need-is-response-requires
 is-response-requires c κs = search needs
 
--- src/functions.rt:41:9
 returns : tie.Need-returns
 returns c = simp (sym (c .before .is-response .ensures) ∙ not-true _ (c .if1 .taken))
 
--- src/functions.rt:44:9
 returns-2 : tie.Need-returns-2
 returns-2 c = simp (sym (c .before .before .is-response .ensures) ∙ not-false _ (c .before .if1 .left), lt-ltb _ _ (c .if2 .taken))
 
--- src/functions.rt:47:9
 returns-3 : tie.Need-returns-3
 returns-3 c = simp (sym (c .before .before .before .is-response .ensures) ∙ not-false _ (c .before .before .if1 .left), le-ltb _ _ (c .before .if2 .left), lt-ltb _ _ (c .if3 .taken))
 
--- src/functions.rt:49:18
 sub-is-marked : tie.Need-sub-is-marked
 sub-is-marked c = search needs
 
--- src/functions.rt:49:18
 part-is-marked-start : tie.Need-part-is-marked-start
 part-is-marked-start c = search needs
 
--- src/functions.rt:49:18
 part-is-marked-end : tie.Need-part-is-marked-end
 part-is-marked-end c = search needs
 
--- src/functions.rt:49:8
 is-marked-requires : tie.Need-is-marked-requires
 is-marked-requires c κs = search needs
 
--- src/functions.rt:50:9
 returns-4 : tie.Need-returns-4
 returns-4 c = simp (sym (c .before .before .before .before .before .before .is-response .ensures) ∙ not-false _ (c .before .before .before .before .before .if1 .left), le-ltb _ _ (c .before .before .before .before .if2 .left), le-ltb _ _ (c .before .before .before .if3 .left), clear (now (c .before .before .before .before .before .before .before .before .args .body)) (sym (c .before .is-marked .ensures) ∙ c .if4 .taken))
 
--- src/functions.rt:37:1
 returns-5 : tie.Need-returns-5
 returns-5 c = simp (sym (c .before .before .before .before .before .before .is-response .ensures) ∙ not-false _ (c .before .before .before .before .before .if1 .left), le-ltb _ _ (c .before .before .before .before .if2 .left), le-ltb _ _ (c .before .before .before .if3 .left), clear (now (c .before .before .before .before .before .before .before .before .args .body)) (sym (c .before .is-marked .ensures) ∙ c .if4 .left))
 

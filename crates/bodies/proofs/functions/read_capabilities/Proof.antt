@@ -7,24 +7,16 @@ use Rattle.bodies.proofs.Layouts.{of-capabilities, capabilities-yes}
 use borrow.Author.Needs.{needs}
 use Rattle.bodies.proofs.functions.read_capabilities.Statement.{statement}
 use Rattle.bodies.proofs.functions.read_capabilities.Tie as tie
-use Rattle.bodies.proofs.functions.read_capabilities.Reads as reads
-use Rattle.bodies.proofs.functions.read_capabilities.Lts as lts
-use Rattle.bodies.proofs.functions.answer.Reads as answer-reads
-use Rattle.bodies.proofs.functions.is_capabilities.Reads as is-capabilities-reads
 
--- src/functions.rt:74:9
 is-capabilities-requires : tie.Need-is-capabilities-requires
 is-capabilities-requires c κs = search needs
 
--- src/functions.rt:75:9
 returns : tie.Need-returns
 returns c = simp (sym (c .before .is-capabilities .ensures) ∙ not-true _ (c .if1 .taken))
 
--- src/functions.rt:77:5
 answer-requires : tie.Need-answer-requires
 answer-requires c κs = of-capabilities (now (c .before .before .before .args .body)) (sym (c .before .is-capabilities .ensures) ∙ not-false _ (c .if1 .left))
 
--- src/functions.rt:71:1
 returns-2 : tie.Need-returns-2
 returns-2 c =
     c .answer .ensures

@@ -1,4 +1,5 @@
 -- `is_marked` meets its contract: each return by the tests that led there, and the mask of 1 is the remainder by 2.
+-- Assumes nothing.
 use mathlib.Core.Path.{ap, sym, _∙_}
 use Prim.Native.Nat.{ℕ, _/_, _-_, _%_, _^_}
 use lib.Dec.{eqb}
@@ -10,42 +11,31 @@ use Rattle.bodies.proofs.Masks.{marks-bit, marks-past}
 use borrow.Author.Needs.{needs}
 use Rattle.bodies.proofs.mask.is_marked.Statement.{statement}
 use Rattle.bodies.proofs.mask.is_marked.Tie as tie
-use Rattle.bodies.proofs.mask.is_marked.Reads as reads
-use Rattle.bodies.proofs.mask.is_marked.Lts as lts
 
--- src/mask.rt:12:9
 returns : tie.Need-returns
 returns c = simp (eq-eqb _ _ (c .if1 .taken))
 
--- src/mask.rt:14:16
 sub-at : tie.Need-sub-at
 sub-at c = search needs
 
--- src/mask.rt:14:14
 cast-at : tie.Need-cast-at
 cast-at c = search needs
 
--- src/mask.rt:15:14
 sub-k : tie.Need-sub-k
 sub-k c = search needs
 
--- src/mask.rt:17:9
 returns-2 : tie.Need-returns-2
 returns-2 c = sym (marks-past (now (c .before .before .args .mask)) (c .before .before .args .f) (c .if2 .taken))
 
--- src/mask.rt:19:6
 shared-slice-read-result : tie.Need-shared-slice-read-result
 shared-slice-read-result c = search needs
 
--- src/mask.rt:19:18
 cast-result : tie.Need-cast-result
 cast-result c = search needs
 
--- src/mask.rt:19:6
 shr-result : tie.Need-shr-result
 shr-result c = search needs
 
--- src/mask.rt:8:1
 returns-3 : tie.Need-returns-3
 returns-3 c =
     let a = c .before .before .before .args in

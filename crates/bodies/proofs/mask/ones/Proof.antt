@@ -11,8 +11,6 @@ use Rattle.bodies.specs.Mask.{onesIn}
 use Rattle.bodies.proofs.Masks.{ones-end, ones-more}
 use Rattle.bodies.proofs.mask.ones.Statement.{statement}
 use Rattle.bodies.proofs.mask.ones.Tie as tie
-use Rattle.bodies.proofs.mask.ones.Reads as reads
-use Rattle.bodies.proofs.mask.ones.Lts as lts
 
 abbrev Inv-loop : tie.InvT-loop
 Inv-loop mask n₀ i₀ n i = (i ≤ length mask) × (onesIn mask ≡ n + onesIn (drop i mask)) × (n ≤ 8 * i)
@@ -24,31 +22,24 @@ abbrev μ-loop : tie.MeasureT-loop
 few : (c : tie.After-shared-slice-known Inv-loop μ-loop) → ones (getD (now (c .before .before .before .args .mask)) (c .before .before .loop .i) 0) ≤ 8
 few c = ones-le 8 (getD (now (c .before .before .before .args .mask)) (c .before .before .loop .i) 0) (c .shared-slice-known .given (c .before .before .loop .i) .fits)
 
--- src/mask.rt:29:5
 loop-holds : tie.Need-loop-holds Inv-loop μ-loop
 loop-holds c = (omega arith, sym (zero-add (onesIn (now (c .args .mask)))), omega arith)
 
--- src/mask.rt:30:29
 shared-slice-read-n : tie.Need-shared-slice-read-n Inv-loop μ-loop
 shared-slice-read-n c = omega arith
 
--- src/mask.rt:30:14
 cast-n : tie.Need-cast-n Inv-loop μ-loop
 cast-n c = omega (arith, few c)
 
--- src/mask.rt:30:9
 add-n : tie.Need-add-n Inv-loop μ-loop
 add-n c = omega (arith, few c)
 
--- src/mask.rt:31:9
 add-i : tie.Need-add-i Inv-loop μ-loop
 add-i c = omega arith
 
--- src/mask.rt:29:5
 loop-less : tie.Need-loop-less Inv-loop μ-loop
 loop-less c = omega arith
 
--- src/mask.rt:29:5
 loop-again : tie.Need-loop-again Inv-loop μ-loop
 loop-again c =
     let l = c .before .before .loop in
@@ -59,7 +50,6 @@ loop-again c =
       omega (arith, few c),
     )
 
--- src/mask.rt:23:1
 returns : tie.Need-returns Inv-loop μ-loop
 returns c =
     let l = c .before .loop in

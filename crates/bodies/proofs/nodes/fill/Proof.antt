@@ -5,63 +5,46 @@ use Rattle.bodies.proofs.Lists.{filled}
 use borrow.Author.Needs.{needs}
 use Rattle.bodies.proofs.nodes.fill.Statement.{statement}
 use Rattle.bodies.proofs.nodes.fill.Tie as tie
-use Rattle.bodies.proofs.nodes.fill.Reads as reads
-use Rattle.bodies.proofs.nodes.fill.Lts as lts
-use Rattle.bodies.proofs.nodes.list_nodes.Reads as list-nodes-reads
 
--- src/nodes.rt:60:15
 shared-slice-read-end : tie.Need-shared-slice-read-end
 shared-slice-read-end c = search needs
 
--- src/nodes.rt:60:15
 cast-end : tie.Need-cast-end
 cast-end c = search needs
 
--- src/nodes.rt:60:15
 add-end : tie.Need-add-end
 add-end c = search needs
 
--- src/nodes.rt:61:28
 sub-list-nodes : tie.Need-sub-list-nodes
 sub-list-nodes c = search needs
 
--- src/nodes.rt:61:28
 part-list-nodes-start : tie.Need-part-list-nodes-start
 part-list-nodes-start c = search needs
 
--- src/nodes.rt:61:28
 part-list-nodes-end : tie.Need-part-list-nodes-end
 part-list-nodes-end c = search needs
 
--- src/nodes.rt:61:9
 list-nodes-requires : tie.Need-list-nodes-requires
 list-nodes-requires c κs = search needs
 
--- src/nodes.rt:63:18
 shared-slice-read-t6 : tie.Need-shared-slice-read-t6
 shared-slice-read-t6 c = search needs
 
--- src/nodes.rt:64:23
 shared-slice-read-t15 : tie.Need-shared-slice-read-t15
 shared-slice-read-t15 c = search needs
 
--- src/nodes.rt:66:20
 shared-slice-read-t17 : tie.Need-shared-slice-read-t17
 shared-slice-read-t17 c = search needs
 
--- src/nodes.rt:67:28
 add-t7 : tie.Need-add-t7
 add-t7 c = search needs
 
--- src/nodes.rt:67:23
 shared-slice-read-t19 : tie.Need-shared-slice-read-t19
 shared-slice-read-t19 c = search needs
 
--- src/nodes.rt:56:1
 same-length : tie.Need-same-length
 same-length c = search needs
 
--- src/nodes.rt:56:1
 returns : tie.Need-returns
 returns c =
     let s = c .before .before .before .before .before .before .before .before .before .before .before .before in

@@ -13,9 +13,6 @@ use Rattle.bodies.proofs.Masks.{marked-le}
 use Rattle.bodies.proofs.Lists.{listed-count, listed-left, passed}
 use Rattle.bodies.proofs.nodes.list_nodes.Statement.{statement}
 use Rattle.bodies.proofs.nodes.list_nodes.Tie as tie
-use Rattle.bodies.proofs.nodes.list_nodes.Reads as reads
-use Rattle.bodies.proofs.nodes.list_nodes.Lts as lts
-use Rattle.bodies.proofs.mask.is_marked.Reads as is-marked-reads
 
 abbrev Inv-loop : tie.InvT-loop
 Inv-loop mask list₀ n₀ k₀ list n k = (k ≤ 232) × (n ≡ length (marked mask k)) × (list ≡ over (marked mask k) list₀) × (length list ≡ length list₀)
@@ -23,40 +20,31 @@ Inv-loop mask list₀ n₀ k₀ list n k = (k ≤ 232) × (n ≡ length (marked 
 abbrev μ-loop : tie.MeasureT-loop
 μ-loop mask list₀ n₀ k₀ list n k = 232 - k
 
--- src/nodes.rt:45:5
 loop-holds : tie.Need-loop-holds Inv-loop μ-loop
 unfolding marked
 loop-holds c = (omega arith, refl, refl, refl)
 
--- src/nodes.rt:46:9
 add-k : tie.Need-add-k Inv-loop μ-loop
 add-k c = omega arith
 
--- src/nodes.rt:47:28
 cast-is-marked : tie.Need-cast-is-marked Inv-loop μ-loop
 cast-is-marked c = omega arith
 
--- src/nodes.rt:47:12
 is-marked-requires : tie.Need-is-marked-requires Inv-loop μ-loop
 is-marked-requires c κs = search needs
 
--- src/nodes.rt:48:18
 cast-list : tie.Need-cast-list Inv-loop μ-loop
 cast-list c = omega (arith, marked-le (now (c .before .before .before .before .before .before .args .mask)) (c .before .before .before .loop .k))
 
--- src/nodes.rt:48:13
 slice-write-list : tie.Need-slice-write-list Inv-loop μ-loop
 slice-write-list c = omega (arith, marked-le (now (c .before .before .before .before .before .before .args .mask)) (c .before .before .before .loop .k))
 
--- src/nodes.rt:49:13
 add-n : tie.Need-add-n Inv-loop μ-loop
 add-n c = omega (arith, marked-le (now (c .before .before .before .before .before .before .args .mask)) (c .before .before .before .loop .k))
 
--- src/nodes.rt:45:5
 loop-less : tie.Need-loop-less Inv-loop μ-loop
 loop-less c = omega arith
 
--- src/nodes.rt:45:5
 loop-again : tie.Need-loop-again Inv-loop μ-loop
 loop-again c =
     let s = c .before .before .before .before .before .before in
@@ -71,11 +59,9 @@ loop-again c =
       length-set (l .list) (l .n) (l .k + 1) ∙ l .inv .3,
     )
 
--- src/nodes.rt:45:5
 loop-less-2 : tie.Need-loop-less-2 Inv-loop μ-loop
 loop-less-2 c = omega arith
 
--- src/nodes.rt:45:5
 loop-again-2 : tie.Need-loop-again-2 Inv-loop μ-loop
 loop-again-2 c =
     let s = c .before .before .before .before .before .before in
@@ -88,11 +74,9 @@ loop-again-2 c =
       l .inv .3,
     )
 
--- src/nodes.rt:39:1
 same-length : tie.Need-same-length Inv-loop μ-loop
 same-length c = c .before .loop .inv .3
 
--- src/nodes.rt:39:1
 returns : tie.Need-returns Inv-loop μ-loop
 returns c =
     let l = c .before .loop in

@@ -10,37 +10,27 @@ use lib.ListN.{length}
 use borrow.Author.Needs.{needs}
 use Rattle.bodies.proofs.nodes.read_nodes.Statement.{statement}
 use Rattle.bodies.proofs.nodes.read_nodes.Tie as tie
-use Rattle.bodies.proofs.nodes.read_nodes.Reads as reads
-use Rattle.bodies.proofs.nodes.read_nodes.Lts as lts
-use Rattle.bodies.proofs.nodes.fill.Reads as fill-reads
-use Rattle.bodies.proofs.nodes.is_node_list.Reads as is-node-list-reads
 
--- src/nodes.rt:76:9
 returns : tie.Need-returns
 returns c = record { answer = simp (lt-ltb _ _ (c .if1 .taken)); left = simp (lt-ltb _ _ (c .if1 .taken)) }
 
--- src/nodes.rt:78:9
 is-node-list-requires : tie.Need-is-node-list-requires
 is-node-list-requires c κs = search needs
 
--- src/nodes.rt:79:9
 returns-2 : tie.Need-returns-2
 returns-2 c =
     let e = sym (c .before .is-node-list .ensures) ∙ not-true _ (c .if2 .taken) in
     record { answer = simp (le-ltb _ _ (c .before .before .if1 .left), e); left = simp (le-ltb _ _ (c .before .before .if1 .left), e) }
 
--- src/nodes.rt:81:5
 fill-requires : tie.Need-fill-requires
 fill-requires c κs = (
   c .before .before .before .if1 .left,
   of-node-list (now (c .before .before .before .before .before .before .args .body)) (sym (c .before .before .is-node-list .ensures) ∙ not-false _ (c .before .if2 .left)),
 )
 
--- src/nodes.rt:72:1
 same-length : tie.Need-same-length
 same-length c = search needs
 
--- src/nodes.rt:72:1
 returns-3 : tie.Need-returns-3
 returns-3 c =
     let s = c .before .before .before .before .before .before .before .before .before in

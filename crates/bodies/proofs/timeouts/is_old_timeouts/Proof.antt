@@ -5,19 +5,13 @@ use borrow.Author.Tests.{not-true, not-false}
 use borrow.Author.Needs.{needs}
 use Rattle.bodies.proofs.timeouts.is_old_timeouts.Statement.{statement}
 use Rattle.bodies.proofs.timeouts.is_old_timeouts.Tie as tie
-use Rattle.bodies.proofs.timeouts.is_old_timeouts.Reads as reads
-use Rattle.bodies.proofs.timeouts.is_old_timeouts.Lts as lts
-use Rattle.bodies.proofs.response.is_response.Reads as is-response-reads
 
--- src/timeouts.rt:41:9
 is-response-requires : tie.Need-is-response-requires
 is-response-requires c κs = search needs
 
--- src/timeouts.rt:42:9
 returns : tie.Need-returns
 returns c = simp (sym (c .before .is-response .ensures) ∙ not-true _ (c .if1 .taken))
 
--- src/timeouts.rt:38:1
 returns-2 : tie.Need-returns-2
 returns-2 c = simp (sym (c .before .is-response .ensures) ∙ not-false _ (c .if1 .left))
 

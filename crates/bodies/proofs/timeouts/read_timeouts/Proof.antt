@@ -10,36 +10,25 @@ use Rattle.bodies.proofs.Layouts.{of-old-timeouts, old-timeouts-yes}
 use borrow.Author.Needs.{needs}
 use Rattle.bodies.proofs.timeouts.read_timeouts.Statement.{statement}
 use Rattle.bodies.proofs.timeouts.read_timeouts.Tie as tie
-use Rattle.bodies.proofs.timeouts.read_timeouts.Reads as reads
-use Rattle.bodies.proofs.timeouts.read_timeouts.Lts as lts
-use Rattle.bodies.proofs.timeouts.is_old_timeouts.Reads as is-old-timeouts-reads
-use Rattle.units.proofs.millis_of.Reads as millis-of-reads
 
--- src/timeouts.rt:51:9
 is-old-timeouts-requires : tie.Need-is-old-timeouts-requires
 is-old-timeouts-requires c κs = search needs
 
--- src/timeouts.rt:52:9
 returns : tie.Need-returns
 returns c = simp (sym (c .before .is-old-timeouts .ensures) ∙ not-true _ (c .if1 .taken))
 
--- src/timeouts.rt:54:35
 shared-slice-read-t8 : tie.Need-shared-slice-read-t8
 shared-slice-read-t8 c = omega (arith, of-old-timeouts (now (c .before .before .before .before .args .body)) (sym (c .before .before .is-old-timeouts .ensures) ∙ not-false _ (c .before .if1 .left)))
 
--- src/timeouts.rt:54:9
 millis-of-requires : tie.Need-millis-of-requires
 millis-of-requires c κs = search needs
 
--- src/timeouts.rt:55:36
 shared-slice-read-t8-2 : tie.Need-shared-slice-read-t8-2
 shared-slice-read-t8-2 c = omega (arith, of-old-timeouts (now (c .before .before .before .before .before .before .args .body)) (sym (c .before .before .before .before .is-old-timeouts .ensures) ∙ not-false _ (c .before .before .before .if1 .left)))
 
--- src/timeouts.rt:55:9
 millis-of-requires-2 : tie.Need-millis-of-requires-2
 millis-of-requires-2 c κs = search needs
 
--- src/timeouts.rt:48:1
 returns-2 : tie.Need-returns-2
 returns-2 c =
     ap₂ (λ (rxack rxbyte : Millis). old.Were rxack rxbyte) (c .before .before .millis-of .ensures) (c .millis-of2 .ensures)

@@ -6,60 +6,44 @@ use Rattle.bodies.proofs.Setting.{first-refused, second-refused, both-t
 use borrow.Author.Needs.{needs}
 use Rattle.bodies.proofs.timeouts.set_timeouts.Statement.{statement}
 use Rattle.bodies.proofs.timeouts.set_timeouts.Tie as tie
-use Rattle.bodies.proofs.timeouts.set_timeouts.Reads as reads
-use Rattle.bodies.proofs.timeouts.set_timeouts.Lts as lts
-use Rattle.frame.proofs.build.Reads as build-reads
-use Rattle.units.proofs.ticks_of.Reads as ticks-of-reads
 
--- src/timeouts.rt:23:33
 ticks-of-requires : tie.Need-ticks-of-requires
 ticks-of-requires c κs = search needs
 
--- src/timeouts.rt:23:26
 enum-known-ack : tie.Need-enum-known-ack
 enum-known-ack c = search needs
 
--- src/timeouts.rt:24:31
 enum-told : tie.Need-enum-told
 enum-told c = search needs
 
--- src/timeouts.rt:24:9
 returns : tie.Need-returns
 returns c =
     let a = c .before .before .before .before .args in
     first-refused (a .rxack) (a .rxbyte) (now (a .lent)) _ (sym (c .before .before .ticks-of .ensures) ∙ c .enum-told .given .1)
 
--- src/timeouts.rt:26:34
 ticks-of-requires-2 : tie.Need-ticks-of-requires-2
 ticks-of-requires-2 c κs = search needs
 
--- src/timeouts.rt:26:26
 enum-known-byte : tie.Need-enum-known-byte
 enum-known-byte c = search needs
 
--- src/timeouts.rt:27:31
 enum-told-2 : tie.Need-enum-told-2
 enum-told-2 c = search needs
 
--- src/timeouts.rt:27:9
 returns-2 : tie.Need-returns-2
 returns-2 c =
     let a = c .before .before .before .before .before .before .before .before .args in
     second-refused (a .rxack) (a .rxbyte) (now (a .lent)) _ _ (sym (c .before .before .before .before .before .before .ticks-of .ensures) ∙ c .before .before .before .before .ack .given .1) (sym (c .before .before .ticks-of2 .ensures) ∙ c .enum-told2 .given .1)
 
--- src/timeouts.rt:30:17
 slice-aggregate-build : tie.Need-slice-aggregate-build
 slice-aggregate-build c = search needs
 
--- src/timeouts.rt:30:5
 build-requires : tie.Need-build-requires
 build-requires c κs = search needs
 
--- src/timeouts.rt:20:1
 same-length : tie.Need-same-length
 same-length c = search needs
 
--- src/timeouts.rt:20:1
 returns-3 : tie.Need-returns-3
 returns-3 c =
     let a = c .before .before .before .before .before .before .before .before .before .before .before .before .before .before .args in
