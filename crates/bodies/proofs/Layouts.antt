@@ -1,6 +1,6 @@
 -- What a body of a layout is known to have.
 -- Assumes nothing.
-use mathlib.Core.Path.{_≡_, refl}
+use mathlib.Core.Path.{_≡_, refl, sym, ap, _∙_}
 use mathlib.Core.Bool.{Bool, true, false}
 use mathlib.Core.List.{List}
 use Prim.Native.Nat.{ℕ, _≤_, _<_, _+_, _-_}
@@ -29,6 +29,9 @@ rest n body = take-all (length body - n) (drop n body) (le-of-eq (length-drop n 
 
 no : false ≡ true → ⊥
 no e = let z : _≡_ {A = ℕ} 0 1 = cc in omega arith
+
+pub marks-rest : (n : ℕ) (body : List ℕ) (f : ℕ) {t : Bool} → marks (take (length body - n) (drop n body)) f ≡ t → marks (drop n body) f ≡ t
+marks-rest n body f e = ap (λ (mask : List ℕ). marks mask f) (sym (rest n body)) ∙ e
 
 -- a test that must hold, and what follows
 pub both : (t : Bool) {a : Bool} → pick t a false ≡ true → (t ≡ true) × (a ≡ true)

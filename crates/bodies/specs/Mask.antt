@@ -16,6 +16,7 @@ bit byte k = byte / 2 ^ k % 2
 abbrev pub bitOf : List ℕ → ℕ → ℕ
 bitOf mask f = bit (getD mask ((f - 1) / 8) 0) ((f - 1) % 8)
 
+-- function f is supported, node f is there
 abbrev pub marks : List ℕ → ℕ → Bool
 marks mask f = pick (eqb f 0) false (eqb (bitOf mask f) 1)
 

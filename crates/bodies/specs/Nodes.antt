@@ -15,7 +15,7 @@ use Rattle.bodies.specs.Mask.{marked}
 use Rattle.bodies.specs.declared.nodes.NodeList.{NodeList}
 use Rattle.bodies.specs.declared.nodes.NodeList.the-variants.{Refused, Answer}
 
--- the count byte: so many mask bytes, and as many before the chip's two
+-- with Type and Command 36 bytes, or 7 with no mask
 abbrev pub isNodeList : List ℕ → Bool
 isNodeList body =
     pick (answers body 2)

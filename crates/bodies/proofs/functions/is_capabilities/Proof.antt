@@ -1,20 +1,26 @@
 -- `is_capabilities` meets its contract: each return by the tests that led there.
 -- Assumes nothing.
 use borrow.Author.Tests.{lt-ltb, le-ltb, not-true, not-false}
-use mathlib.Core.Path.{_≡_, ap, sym, _∙_}
-use mathlib.Core.Bool.{Bool}
-use mathlib.Core.List.{List}
-use Prim.Native.Nat.{ℕ, _-_}
-use lib.ListN.{length, take, drop}
+use mathlib.Core.Path.{_≡_, sym, _∙_}
+use mathlib.Core.Bool.{Bool, true, false}
 use denote.Ref.{now}
-use Rattle.bodies.specs.Mask.{marks}
-use Rattle.bodies.proofs.Layouts.{rest}
+use Rattle.frame.specs.Pick.{pick}
+use Rattle.bodies.specs.Capabilities.{isCapabilities}
+use Rattle.bodies.proofs.Layouts.{marks-rest}
 use borrow.Author.Needs.{needs}
 use Rattle.bodies.proofs.functions.is_capabilities.Statement.{statement}
 use Rattle.bodies.proofs.functions.is_capabilities.Tie as tie
 
-clear : (body : List ℕ) {t : Bool} → marks (take (length body - 10) (drop 10 body)) 256 ≡ t → marks (drop 10 body) 256 ≡ t
-clear body e = ap (λ (mask : List ℕ). marks mask 256) (sym (rest 10 body)) ∙ e
+-- with the test of the bit for 256 all is decided
+decided : (c : tie.After-is-marked) {t : Bool} → c .is-marked .result ≡ t → isCapabilities (now (c .before .before .before .before .before .before .before .args .body)) ≡ pick t false true
+decided c e =
+    let body = now (c .before .before .before .before .before .before .before .args .body) in
+    simp (
+      sym (c .before .before .before .before .before .is-response .ensures) ∙ not-false _ (c .before .before .before .before .if1 .left),
+      le-ltb _ _ (c .before .before .before .if2 .left),
+      le-ltb _ _ (c .before .before .if3 .left),
+      marks-rest 10 body 256 (sym (c .is-marked .ensures) ∙ e),
+    )
 
 is-response-requires : tie.Need-is-response-requires
 is-response-requires c κs = search needs
@@ -41,10 +47,10 @@ is-marked-requires : tie.Need-is-marked-requires
 is-marked-requires c κs = search needs
 
 returns-4 : tie.Need-returns-4
-returns-4 c = simp (sym (c .before .before .before .before .before .before .is-response .ensures) ∙ not-false _ (c .before .before .before .before .before .if1 .left), le-ltb _ _ (c .before .before .before .before .if2 .left), le-ltb _ _ (c .before .before .before .if3 .left), clear (now (c .before .before .before .before .before .before .before .before .args .body)) (sym (c .before .is-marked .ensures) ∙ c .if4 .taken))
+returns-4 c = sym (decided (c .before) (c .if4 .taken))
 
 returns-5 : tie.Need-returns-5
-returns-5 c = simp (sym (c .before .before .before .before .before .before .is-response .ensures) ∙ not-false _ (c .before .before .before .before .before .if1 .left), le-ltb _ _ (c .before .before .before .before .if2 .left), le-ltb _ _ (c .before .before .before .if3 .left), clear (now (c .before .before .before .before .before .before .before .before .args .body)) (sym (c .before .is-marked .ensures) ∙ c .if4 .left))
+returns-5 c = sym (decided (c .before) (c .if4 .left))
 
 pub is-capabilities-spec : {M : Type 1} → statement M
 is-capabilities-spec =
