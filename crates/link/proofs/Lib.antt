@@ -3,3 +3,4 @@ pub mod Sizes
 pub mod Opened
 pub mod Ways
 pub mod Puts
+pub mod Theorems
