@@ -119,7 +119,7 @@ module _ (R : Rules) (k : Core) (body frame : List ℕ) where
 abbrev pub reached : Rules → Link → Far → Taken
 reached R l f = record { out = out (f .body) (l .frame) (decideOn R (l .core) (f .heard)); taken = f .taken }
 
-no : true ≡ false → ⊥
+pub no : true ≡ false → ⊥
 no e = let z : _≡_ {A = ℕ} 0 1 = cc in omega arith
 
 -- a byte without news leaves the job and the run of bad sums as they are

@@ -1,12 +1,15 @@
 -- How the code goes through a run of bytes: by hearing alone. That this is `runOut` is proved (proofs/Heard.antt).
 -- Assumes nothing.
-use Prim.Native.Nat.{ℕ, _+_}
+use Prim.Native.Nat.{ℕ, _+_, _≤_, _<_}
 use mathlib.Core.Path.{_≡_}
 use mathlib.Core.List.{List, [], _∷_}
+use lib.ListN.{length, drop}
 use Rattle.frame.specs.Pick.{pick}
 use Rattle.link.specs.Hearing.{heard, heardByte, keep}
 use Rattle.link.specs.declared.hearing.Heard.{Heard}
 use Rattle.link.specs.declared.hearing.Hearing.{Hearing}
+use Rattle.link.specs.declared.hearing.Hearing.the-variants.{Hunting, Head, Body}
+use Rattle.link.specs.declared.hearing.Partial.{Partial}
 use Rattle.link.specs.declared.run.Reach.{Reach}
 use mathlib.Core.Bool.{Bool, true, false}
 use Rattle.link.specs.declared.hearing.Event.{Event}
@@ -49,3 +52,30 @@ far r body = record { heard = heard (r .hearing) (r .event); body = body; taken 
 
 pub record Reached (before : Hearing) (bytes body : List ℕ) (r : Reach) (body′ : List ℕ) : Type 0 where
   pub all : far r body′ ≡ hearFrom (start before body) bytes
+
+-- a half-received frame with n more body bytes, behind its Type and Command, and this sum
+abbrev pub moved : Partial → ℕ → ℕ → Partial
+moved p n sum = record { clock = p .clock; size = p .size; at = p .at + n; sum = sum; kind = p .kind; command = p .command }
+
+-- n body bytes can be taken at once, of so many that are there and with so much room: Type and Command have come, and all belong to the body
+pub record Leaps (p : Partial) (there room n : ℕ) : Type 0 where
+  pub two : 2 ≤ p .at
+  pub sized : p .at + n ≤ p .size
+  pub near : n ≤ there
+  pub roomy : p .at + n ≤ room
+
+abbrev pub Leap : Hearing → ℕ → ℕ → ℕ → Type 0
+Leap Hunting there room n = ⊥
+Leap (Head clock) there room n = ⊥
+Leap (Body p) there room n = Leaps p there room n
+
+-- the code has gone on by some bytes, from the i-th, as hearing would byte by byte
+pub record Onward (h : Hearing) (bytes : List ℕ) (i : ℕ) (body : List ℕ) (r : Reach) (body′ : List ℕ) : Type 0 where
+  pub some : 0 < r .taken
+  pub there : i + r .taken ≤ length bytes
+  pub same : length body′ ≡ length body
+  pub stops : (e : Event) → newsByte (r .event) ≡ true
+      → hearFrom (record { heard = heard h e; body = body; taken = i }) (drop i bytes) ≡ record { heard = heard (r .hearing) (r .event); body = body′; taken = i + r .taken }
+  pub goes : (e : Event) → newsByte (r .event) ≡ false
+      → hearFrom (record { heard = heard h e; body = body; taken = i }) (drop i bytes)
+      ≡ hearFrom (record { heard = heard (r .hearing) (r .event); body = body′; taken = i + r .taken }) (drop (i + r .taken) bytes)
