@@ -11,10 +11,6 @@ use Rattle.link.specs.Run.{hearFrom, start}
 use Rattle.link.proofs.Hears.{hear-end}
 use Rattle.link.proofs.run.hear_run.Statement.{statement}
 use Rattle.link.proofs.run.hear_run.Tie as tie
-use Rattle.link.proofs.run.hear_run.Reads as reads
-use Rattle.link.proofs.run.hear_run.Lts as lts
-use Rattle.link.proofs.run.has_news.Reads as has-news-reads
-use Rattle.link.proofs.run.onward.Reads as onward-reads
 
 abbrev Inv-loop : tie.InvT-loop
 Inv-loop bytes body₀ hearing₀ event₀ i₀ body hearing event i =
@@ -25,49 +21,39 @@ Inv-loop bytes body₀ hearing₀ event₀ i₀ body hearing event i =
 abbrev μ-loop : tie.MeasureT-loop
 μ-loop bytes body₀ hearing₀ event₀ i₀ body hearing event i = length bytes - i
 
--- src/run.rt:168:5
 loop-holds : tie.Need-loop-holds Inv-loop μ-loop
 loop-holds c = (omega arith, refl, refl)
 
--- src/run.rt:169:13
 onward-requires : tie.Need-onward-requires Inv-loop μ-loop
 onward-requires c κs = search needs
 
--- src/run.rt:172:9
 add-i : tie.Need-add-i Inv-loop μ-loop
 add-i c = omega (arith, c .before .before .before .onward .ensures .there)
 
--- src/run.rt:173:12
 has-news-requires : tie.Need-has-news-requires Inv-loop μ-loop
 has-news-requires c κs = search needs
 
--- src/run.rt:168:5
 loop-less : tie.Need-loop-less Inv-loop μ-loop
 loop-less c = omega (arith, c .before .before .before .before .before .onward .ensures .some, c .before .before .before .before .before .onward .ensures .there)
 
--- src/run.rt:168:5
 loop-again : tie.Need-loop-again Inv-loop μ-loop
 loop-again c =
     let l = c .before .before .before .before .before .before .before .before .loop in
     let o = c .before .before .before .before .before .onward .ensures in
     (o .there, l .inv .1 ∙ o .goes (l .event) (sym (c .before .has-news .ensures) ∙ c .if1 .left), o .same ∙ l .inv .2)
 
--- src/run.rt:162:1
 same-length : tie.Need-same-length Inv-loop μ-loop
 same-length c = c .before .loop .inv .2
 
--- src/run.rt:162:1
 returns : tie.Need-returns Inv-loop μ-loop
 returns c =
     let l = c .before .loop in
     let bs = now (c .before .before .before .before .args .bytes) in
     record { all = sym (l .inv .1 ∙ hear-end (record { heard = heard (l .hearing) (l .event); body = l .body; taken = l .i }) (l .i) bs (c .loop-test .left)) }
 
--- src/run.rt:162:1
 same-length-2 : tie.Need-same-length-2 Inv-loop μ-loop
 same-length-2 c = c .before .before .before .before .before .onward .ensures .same ∙ c .before .before .before .before .before .before .before .before .loop .inv .2
 
--- src/run.rt:162:1
 returns-2 : tie.Need-returns-2 Inv-loop μ-loop
 returns-2 c =
     let l = c .before .before .before .before .before .before .before .before .loop in

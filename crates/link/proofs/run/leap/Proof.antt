@@ -1,36 +1,28 @@
+-- `link::run::leap` meets its contract.
+-- Assumes nothing.
 use native.Mathlib.Nat.{not-suc-le-zero}
 use borrow.Author.Needs.{needs}
 use Rattle.link.proofs.run.leap.Statement.{statement}
 use Rattle.link.proofs.run.leap.Tie as tie
-use Rattle.link.proofs.run.leap.Reads as reads
-use Rattle.link.proofs.run.leap.Lts as lts
-use Rattle.link.proofs.run.leap_in.Reads as leap-in-reads
 
--- src/run.rt:73:29
 enum-told : tie.Need-enum-told
 enum-told c = search needs
 
--- src/run.rt:74:39
 enum-told-2 : tie.Need-enum-told-2
 enum-told-2 c = search needs
 
--- src/run.rt:75:23
 enum-known-hearing : tie.Need-enum-known-hearing
 enum-known-hearing c = search needs
 
--- src/run.rt:75:29
 leap-in-requires : tie.Need-leap-in-requires
 leap-in-requires c κs = search needs
 
--- src/run.rt:69:1
 returns : tie.Need-returns
 returns c h = absurd (not-suc-le-zero h)
 
--- src/run.rt:69:1
 returns-2 : tie.Need-returns-2
 returns-2 c h = absurd (not-suc-le-zero h)
 
--- src/run.rt:69:1
 returns-3 : tie.Need-returns-3
 returns-3 c h = simp (c .before .before .hearing .given .1) (c .leap-in .ensures h)
 

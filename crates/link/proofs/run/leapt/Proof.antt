@@ -1,4 +1,6 @@
-use mathlib.Core.Path.{_≡_, ap, sym, _∙_}
+-- `link::run::leapt` meets its contract.
+-- Assumes nothing.
+use mathlib.Core.Path.{ap, sym, _∙_}
 use native.Mathlib.Omega.{arith}
 use lib.ListN.{length, drop, length-drop}
 use lib.Seq.{length-paste}
@@ -8,43 +10,31 @@ use Rattle.link.proofs.Walks.{walked-on}
 use borrow.Author.Needs.{needs}
 use Rattle.link.proofs.run.leapt.Statement.{statement}
 use Rattle.link.proofs.run.leapt.Tie as tie
-use Rattle.link.proofs.run.leapt.Reads as reads
-use Rattle.link.proofs.run.leapt.Lts as lts
-use Rattle.link.proofs.run.walk.Reads as walk-reads
 
--- src/run.rt:99:14
 cast-at : tie.Need-cast-at
 cast-at c = search needs
 
--- src/run.rt:100:9
 walk-requires : tie.Need-walk-requires
 walk-requires c κs = search needs
 
--- src/run.rt:102:16
 add-next : tie.Need-add-next
 add-next c = search needs
 
--- src/run.rt:102:15
 cast-next : tie.Need-cast-next
 cast-next c = search needs
 
--- src/run.rt:107:18
 add-t11 : tie.Need-add-t11
 add-t11 c = search needs
 
--- src/run.rt:107:18
 sub-t13 : tie.Need-sub-t13
 sub-t13 c = search needs
 
--- src/run.rt:107:17
 cast-t14 : tie.Need-cast-t14
 cast-t14 c = search needs
 
--- src/run.rt:95:1
 same-length : tie.Need-same-length
 same-length c = search needs
 
--- src/run.rt:95:1
 returns : tie.Need-returns
 returns c =
     let st = c .before .before .before .before .before .before .before in

@@ -1,34 +1,26 @@
-use Prim.Native.Nat.{_<_, _≤_}
+-- `link::run::one` meets its contract.
+-- Assumes nothing.
 use native.Mathlib.Omega.{arith}
-use mathlib.Core.Path.{_≡_, refl, _∙_}
+use mathlib.Core.Path.{_∙_}
 use denote.Ref.{now}
 use Rattle.link.specs.Hearing.{heard}
 use Rattle.link.proofs.Hears.{hear-more, hear-stop, keep-length}
 use borrow.Author.Needs.{needs}
 use Rattle.link.proofs.run.one.Statement.{statement}
 use Rattle.link.proofs.run.one.Tie as tie
-use Rattle.link.proofs.run.one.Reads as reads
-use Rattle.link.proofs.run.one.Lts as lts
-use Rattle.link.proofs.hearing.hear_byte.Reads as hear-byte-reads
-use Rattle.link.proofs.step.keep.Reads as keep-reads
 
--- src/run.rt:118:13
 shared-slice-read-b : tie.Need-shared-slice-read-b
 shared-slice-read-b c = search needs
 
--- src/run.rt:119:9
 hear-byte-requires : tie.Need-hear-byte-requires
 hear-byte-requires c κs = search needs
 
--- src/run.rt:122:5
 keep-requires : tie.Need-keep-requires
 keep-requires c κs = search needs
 
--- src/run.rt:114:1
 same-length : tie.Need-same-length
 same-length c = search needs
 
--- src/run.rt:114:1
 returns : tie.Need-returns
 returns c =
     let st = c .before .before .before .before .before .before .before .before in

@@ -1,36 +1,27 @@
+-- `link::run::onward` meets its contract.
+-- Assumes nothing.
 use Prim.Native.Nat.{_<_}
 use native.Mathlib.Omega.{arith}
 use Rattle.link.proofs.Walks.{leap-near, leap-same}
 use borrow.Author.Needs.{needs}
 use Rattle.link.proofs.run.onward.Statement.{statement}
 use Rattle.link.proofs.run.onward.Tie as tie
-use Rattle.link.proofs.run.onward.Reads as reads
-use Rattle.link.proofs.run.onward.Lts as lts
-use Rattle.link.proofs.run.ahead.Reads as ahead-reads
-use Rattle.link.proofs.run.leap.Reads as leap-reads
-use Rattle.link.proofs.run.one.Reads as one-reads
 
--- src/run.rt:154:27
 sub-leap : tie.Need-sub-leap
 sub-leap c = search needs
 
--- src/run.rt:154:9
 leap-requires : tie.Need-leap-requires
 leap-requires c κs = search needs
 
--- src/run.rt:156:9
 one-requires : tie.Need-one-requires
 one-requires c κs = search needs
 
--- src/run.rt:156:9
 same-length : tie.Need-same-length
 same-length c = search needs
 
--- src/run.rt:156:9
 returns : tie.Need-returns
 returns c = search needs
 
--- src/run.rt:158:5
 ahead-requires : tie.Need-ahead-requires
 ahead-requires c κs =
     let st = c .before .before .before .before .before in
@@ -38,11 +29,9 @@ ahead-requires c κs =
     let l = c .before .before .leap .ensures some in
     (some, omega (arith, leap-near (st .args .hearing) _ _ _ l), leap-same (st .args .hearing) _ _ _ l)
 
--- src/run.rt:150:1
 same-length-2 : tie.Need-same-length-2
 same-length-2 c = search needs
 
--- src/run.rt:150:1
 returns-2 : tie.Need-returns-2
 returns-2 c = search needs
 

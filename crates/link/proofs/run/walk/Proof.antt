@@ -12,8 +12,6 @@ use Rattle.frame.specs.Bytes.{xorAll}
 use Rattle.link.proofs.Walks.{fold-on, paste-on}
 use Rattle.link.proofs.run.walk.Statement.{statement}
 use Rattle.link.proofs.run.walk.Tie as tie
-use Rattle.link.proofs.run.walk.Reads as reads
-use Rattle.link.proofs.run.walk.Lts as lts
 
 abbrev Inv-loop : tie.InvT-loop
 Inv-loop sum bytes i n body₀ at acc₀ j₀ body acc j =
@@ -22,36 +20,28 @@ Inv-loop sum bytes i n body₀ at acc₀ j₀ body acc j =
 abbrev μ-loop : tie.MeasureT-loop
 μ-loop sum bytes i n body₀ at acc₀ j₀ body acc j = n - j
 
--- src/run.rt:86:5
 loop-holds : tie.Need-loop-holds Inv-loop μ-loop
 unfolding xorAll
 loop-holds c = (omega arith, refl, paste-zero (now (c .args .body)) (c .args .at) (drop (c .args .i) (now (c .args .bytes))), refl)
 
--- src/run.rt:87:23
 add-b : tie.Need-add-b Inv-loop μ-loop
 add-b c = omega arith
 
--- src/run.rt:87:17
 shared-slice-read-b : tie.Need-shared-slice-read-b Inv-loop μ-loop
 shared-slice-read-b c = omega arith
 
--- src/run.rt:88:14
 add-body : tie.Need-add-body Inv-loop μ-loop
 add-body c = omega arith
 
--- src/run.rt:88:9
 slice-write-body : tie.Need-slice-write-body Inv-loop μ-loop
 slice-write-body c = omega arith
 
--- src/run.rt:90:9
 add-j : tie.Need-add-j Inv-loop μ-loop
 add-j c = omega arith
 
--- src/run.rt:86:5
 loop-less : tie.Need-loop-less Inv-loop μ-loop
 loop-less c = omega arith
 
--- src/run.rt:86:5
 loop-again : tie.Need-loop-again Inv-loop μ-loop
 loop-again c =
     let a = c .before .before .before .args in
@@ -65,11 +55,9 @@ loop-again c =
       simp length-set (l .inv .3),
     )
 
--- src/run.rt:80:1
 same-length : tie.Need-same-length Inv-loop μ-loop
 same-length c = c .before .loop .inv .3
 
--- src/run.rt:80:1
 returns : tie.Need-returns Inv-loop μ-loop
 returns c =
     let a = c .before .before .args in

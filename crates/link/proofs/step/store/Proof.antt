@@ -1,25 +1,21 @@
+-- `link::step::store` meets its contract.
+-- Assumes nothing.
 use mathlib.Core.Path.{sym}
 use denote.Ref.{now}
 use lib.Seq.{set-out}
 use borrow.Author.Needs.{needs}
 use Rattle.link.proofs.step.store.Statement.{statement}
 use Rattle.link.proofs.step.store.Tie as tie
-use Rattle.link.proofs.step.store.Reads as reads
-use Rattle.link.proofs.step.store.Lts as lts
 
--- src/step.rt:87:9
 slice-write-body : tie.Need-slice-write-body
 slice-write-body c = search needs
 
--- src/step.rt:82:1
 same-length : tie.Need-same-length
 same-length c = search needs
 
--- src/step.rt:82:1
 returns : tie.Need-returns
 returns c = search needs
 
--- src/step.rt:82:1
 returns-2 : tie.Need-returns-2
 returns-2 c =
     let a = c .before .args in
