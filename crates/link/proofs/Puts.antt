@@ -27,7 +27,8 @@ put-behind bs src lent size n at {lent₁} {lent₂} a l e room laid =
     let in-src : n ≤ length src = omega (arith, e, min-le-right size (length src)) in
     let same : length lent₁ ≡ length lent = ap length l ∙ over-length bs lent (omega arith) in
     let whole : lent₂ ≡ over (bs ++ take n src) lent =
-        laid-in in-src (omega (arith, same)) laid ∙ simp (a, l) (put-bytes bs src lent n in-src) in
-    record
-      { count = simp (length-append, length-take, a, e)
-      ; left = whole ∙ ap (λ (s : List ℕ). over (bs ++ s) lent) (ap (λ (k : ℕ). take k src) e ∙ take-min size src) }
+    laid-in in-src (omega (arith, same)) laid ∙ simp (a, l) (put-bytes bs src lent n in-src) in
+    record {
+      count = simp (length-append, length-take, a, e);
+      left = whole ∙ ap (λ (s : List ℕ). over (bs ++ s) lent) (ap (λ (k : ℕ). take k src) e ∙ take-min size src);
+    }

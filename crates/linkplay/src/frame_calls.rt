@@ -1,0 +1,88 @@
+// The calls on frames, each with its line of output.
+use crate::lent::is_spilled;
+use crate::lent::restore;
+use crate::printing::put;
+use crate::printing::put_byte;
+use crate::printing::put_bytes;
+use crate::printing::put_end;
+use crate::printing::put_front;
+use crate::printing::put_refused;
+use crate::script::behind;
+use crate::script::spelt_at;
+use frame::Built;
+use frame::Reading;
+use frame::Refusal;
+
+// The line of a call that was refused; the lent buffer is as before it again.
+pub fn refused(
+    name: &[u8],
+    refusal: Refusal,
+    lent: &mut [u8],
+    out: &mut [u8],
+    waiting: usize,
+) -> usize {
+    let spilled = is_spilled(lent, 0);
+    restore(lent, 0);
+    let a = put(name, out, waiting);
+    let b = put_refused(refusal, out, a);
+    put_end(spilled, out, b)
+}
+
+// The line of a call that wrote a frame of n bytes; the lent buffer is as before it again.
+fn wrote(name: &[u8], n: usize, lent: &mut [u8], out: &mut [u8], waiting: usize) -> usize {
+    let a = put(name, out, waiting);
+    let b = put(b" ok ", out, a);
+    let c = put_front(lent, n, out, b);
+    let spilled = is_spilled(lent, n);
+    restore(lent, n);
+    put_end(spilled, out, c)
+}
+
+// The line of a call that writes a frame.
+pub fn built(name: &[u8], answer: Built, lent: &mut [u8], out: &mut [u8], waiting: usize) -> usize {
+    match answer {
+        Built::Refused(refusal) => refused(name, refusal, lent, out, waiting),
+        Built::Frame(n) => wrote(name, n as usize, lent, out, waiting),
+    }
+}
+
+pub fn build(bytes: &[u8], lent: &mut [u8], out: &mut [u8], waiting: usize) -> usize {
+    let kind = spelt_at(bytes, 0);
+    let command = spelt_at(bytes, 1);
+    let answer = frame::build(kind, command, behind(bytes, 2), lent);
+    built(b"build", answer, lent, out, waiting)
+}
+
+// The parts of a frame that was read: its parameters are `count` bytes from the fifth on.
+fn put_frame(
+    kind: u8,
+    command: u8,
+    parameters: &[u8],
+    count: u8,
+    out: &mut [u8],
+    waiting: usize,
+) -> usize {
+    let a = put(b"read ok type=", out, waiting);
+    let b = put_byte(kind, out, a);
+    let c = put(b" command=", out, b);
+    let d = put_byte(command, out, c);
+    let e = put(b" parameters=", out, d);
+    let f = put_front(parameters, count as usize, out, e);
+    put_end(false, out, f)
+}
+
+pub fn read(bytes: &[u8], out: &mut [u8], waiting: usize) -> usize {
+    let answer = frame::read(bytes);
+    match answer {
+        Reading::Refused(refusal) => {
+            let a = put(b"read", out, waiting);
+            let b = put_refused(refusal, out, a);
+            put_end(false, out, b)
+        }
+        Reading::Parts {
+            kind,
+            command,
+            count,
+        } => put_frame(kind, command, behind(bytes, 4), count, out, waiting),
+    }
+}
