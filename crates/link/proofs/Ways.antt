@@ -14,7 +14,8 @@ use Rattle.link.specs.declared.calls.Answer.the-variants as answer
 use Rattle.link.specs.declared.calls.Answered.{Answered}
 use Rattle.link.specs.declared.calls.RunAnswer.the-variants as run
 use Rattle.link.specs.declared.calls.Ran.{Ran}
-use Rattle.link.specs.Step.{Out, Taken}
+use Rattle.link.specs.declared.state.Stretch.{Stretch}
+use Rattle.link.specs.Step.{Out, Taken, stepOut, taking}
 use Rattle.link.specs.Calls.{Checked, passes, refuses, checks, Call, Run, Written}
 
 -- the checks of a call, by how much room there is
@@ -39,10 +40,23 @@ module _ (own : Checked) (o : Out) (l : Link) (line up : List ℕ) where
       → r ≡ record { link = o .link; answer = answer.Done p } → Written o line up p line′ up′ → Call own o l line up r line′ up′
   give e x w = record { answer = simp e (x ∙ ap (λ (q : Report). record { link = o .link; answer = answer.Done q }) (w .report)); line-left = simp e (w .line-left); up-left = simp e (w .up-left) }
 
+  -- from what `emit` leaves of a step that gives o
+  pub accept : {q : Out} {m : Link} {r : Answered} {line′ up′ : List ℕ} → 258 ≤ length line → 254 ≤ length up → own ≡ passes → q ≡ o
+      → Call passes q m line up r line′ up′ → Call own o l line up r line′ up′
+  accept h k e x w =
+      let f = roomy line up own h k ∙ e in
+      let g = roomy line up passes h k in
+      record { answer = simp f (simp (g, x) at (w .answer)); line-left = simp f (simp (g, x) at (w .line-left)); up-left = simp f (simp (g, x) at (w .up-left)) }
+
 module _ (t : Taken) (l : Link) (line up : List ℕ) where
   pub refuse-run : checks line up passes ≡ refuses Room → Run t l line up (record { link = l; answer = run.Refused Room }) line up
   refuse-run e = record { answer = simp e; line-left = simp e; up-left = simp e }
 
-  pub give-run : {p : Report} {line′ up′ : List ℕ} → checks line up passes ≡ passes → Written (t .out) line up p line′ up′
-      → Run t l line up (record { link = t .out .link; answer = run.Done p (t .taken) }) line′ up′
-  give-run e w = record { answer = simp e (ap (λ (q : Report). record { link = t .out .link; answer = run.Done q (t .taken) }) (w .report)); line-left = simp e (w .line-left); up-left = simp e (w .up-left) }
+  pub give-run : (s : Stretch) {m : Link} {p : Report} {line′ up′ : List ℕ} → checks line up passes ≡ passes → taking s ≡ t → m ≡ stepOut (s .step) .link
+      → Written (stepOut (s .step)) line up p line′ up′ → Run t l line up (record { link = m; answer = run.Done p (s .taken) }) line′ up′
+  give-run s e x y w =
+      record {
+        answer = simp (e, ← x) (simp (y, w .report));
+        line-left = simp (e, ← x) (w .line-left);
+        up-left = simp (e, ← x) (w .up-left);
+      }

@@ -1,6 +1,7 @@
-use mathlib.Core.Path.{_≡_}
-use mathlib.Core.List.{append-nil}
-use Prim.Native.Nat.{_+_, _≤_}
+use mathlib.Core.Path.{_≡_, sym, ap, _∙_}
+use mathlib.Core.List.{List, append-nil}
+use Prim.Native.Nat.{ℕ, _+_, _≤_}
+use Rattle.frame.specs.Bytes.{over}
 use native.Mathlib.Nat.{min-le-right}
 use native.Mathlib.Omega.{arith}
 use lib.ListN.{length}
@@ -86,7 +87,9 @@ returns-2 : tie.Need-returns-2
 returns-2 c =
     let st = c .before .before .before .before .before .before in
     let put = c .before .before .before .put-reply .ensures in
-    simp (c .if1 .left, append-nil) (record { count = put .0; left = put .1 })
+    let e = sym (append-nil (replyBytes (st .args .reply))) in
+    simp (c .if1 .left)
+    (record { count = put .0 ∙ ap length e; left = put .1 ∙ ap (λ (bs : List ℕ). over bs (now (st .args .line))) e })
 
 pub put-line-spec : {M : Type 1} → statement M
 put-line-spec =

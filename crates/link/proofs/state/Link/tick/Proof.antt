@@ -1,3 +1,9 @@
+use mathlib.Core.Path.{_≡_, refl, sym, ap, _∙_}
+use denote.Ref.{now}
+use Rattle.link.specs.Rules.{base}
+use Rattle.link.specs.Step.{tickOut}
+use Rattle.link.specs.Calls.{passes}
+use Rattle.link.proofs.Ways.{short-line, short-up, roomy, refuse, accept}
 use borrow.Author.Needs.{needs}
 use Rattle.link.proofs.state.Link.tick.Statement.{statement}
 use Rattle.link.proofs.state.Link.tick.Tie as tie
@@ -13,7 +19,11 @@ refused-requires c κs = search needs
 
 -- src/calls.rt:101:13
 returns : tie.Need-returns
-returns c = ?
+returns c =
+    let a = c .before .before .before .before .args in
+    let line = now (a .line) in
+    let up = now (a .up) in
+    refuse passes (tickOut base (a .self)) (a .self) line up (short-line line up passes (c .before .if1 .taken)) (c .refused .ensures)
 
 -- src/calls.rt:104:13
 refused-requires-2 : tie.Need-refused-requires-2
@@ -21,7 +31,11 @@ refused-requires-2 c κs = search needs
 
 -- src/calls.rt:104:13
 returns-2 : tie.Need-returns-2
-returns-2 c = ?
+returns-2 c =
+    let a = c .before .before .before .before .before .args in
+    let line = now (a .line) in
+    let up = now (a .up) in
+    refuse passes (tickOut base (a .self)) (a .self) line up (short-up line up passes (c .before .before .if1 .left) (c .before .if2 .taken)) (c .refused2 .ensures)
 
 -- src/calls.rt:106:13
 tick-step-requires : tie.Need-tick-step-requires
@@ -41,7 +55,11 @@ same-length-2 c = search needs
 
 -- src/calls.rt:97:5
 returns-3 : tie.Need-returns-3
-returns-3 c = ?
+returns-3 c =
+    let a = c .before .before .before .before .before .before .before .before .before .before .before .before .args in
+    let line = now (a .line) in
+    let up = now (a .up) in
+    accept passes (tickOut base (a .self)) (a .self) line up (c .before .before .before .before .before .before .before .before .before .if1 .left) (c .before .before .before .before .before .before .before .before .if2 .left) refl (c .before .before .before .before .before .before .before .tick-step .ensures) (c .before .before .before .before .emit .ensures)
 
 pub tick-spec : {M : Type 1} → statement M
 tick-spec =
