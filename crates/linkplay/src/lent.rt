@@ -5,13 +5,10 @@ fn mark(i: usize) -> u8 {
     (i % 256) as u8 ^ 165
 }
 
-// Puts the pattern into the first n bytes.
-pub fn fill(lent: &mut [u8], n: usize) {
+// Puts the pattern into all of a buffer.
+pub fn fill(lent: &mut [u8]) {
     let mut i = 0;
     while i < lent.len() {
-        if n <= i {
-            return;
-        }
         lent[i] = mark(i);
         i += 1;
     }
@@ -31,8 +28,10 @@ pub fn is_spilled(lent: &[u8], n: usize) -> bool {
 // Makes a buffer as it was before a call that reported its first n bytes.
 pub fn restore(lent: &mut [u8], n: usize) {
     if is_spilled(lent, n) {
-        fill(lent, lent.len());
+        fill(lent);
         return;
     }
-    fill(lent, n);
+    if n <= lent.len() {
+        fill(&mut lent[0..n]);
+    }
 }

@@ -157,6 +157,17 @@ fn is_quiet(answer: Answer) -> bool {
     }
 }
 
+// Whether a tick among many has something to tell.
+fn is_told(answer: Answer, line: &[u8], up: &[u8]) -> bool {
+    if !is_quiet(answer) {
+        return true;
+    }
+    if is_spilled(line, 0) {
+        return true;
+    }
+    is_spilled(up, 0)
+}
+
 // A tick with the count of ticks behind it: no play lasts until it goes round.
 fn ticked(player: Player, answered: Answered) -> Player {
     let link = answered.link;
@@ -182,19 +193,13 @@ fn tick(player: Player, line: &mut [u8], up: &mut [u8], out: &mut [u8]) -> Playe
     called(next, b"tick", answered, line, up, out)
 }
 
-// One of many ticks, which is told only where it says more than nothing.
+// One of many ticks, which has a line only where it has something to tell.
 fn quiet_tick(player: Player, line: &mut [u8], up: &mut [u8], out: &mut [u8]) -> Player {
     let link = player.link;
     let answered = link.tick(line, up);
     let next = ticked(player, answered);
     let answer = answered.answer;
-    if !is_quiet(answer) {
-        return called(next, b"tick", answered, line, up, out);
-    }
-    if is_spilled(line, 0) {
-        return called(next, b"tick", answered, line, up, out);
-    }
-    if is_spilled(up, 0) {
+    if is_told(answer, line, up) {
         return called(next, b"tick", answered, line, up, out);
     }
     next

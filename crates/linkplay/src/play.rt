@@ -63,11 +63,11 @@ fn on_frame(
     match verb {
         FrameVerb::Build => {
             let n = least(257, lent);
-            build(bytes, &mut lent[..n], out, waiting)
+            build(bytes, &mut lent[0..n], out, waiting)
         }
         FrameVerb::BuildRoom => {
             let n = least(size, lent);
-            build(bytes, &mut lent[..n], out, waiting)
+            build(bytes, &mut lent[0..n], out, waiting)
         }
         FrameVerb::Read => read(bytes, out, waiting),
     }
@@ -89,8 +89,8 @@ fn on_lent(
         count,
         bytes,
         player,
-        &mut line[..n],
-        &mut up[..k],
+        &mut line[0..n],
+        &mut up[0..k],
         out,
     )
 }
@@ -136,7 +136,7 @@ fn on_line(
     }
     let order = order_of(text);
     let n = least(order.count, text);
-    carry(order, &text[..n], player, line, up, out)
+    carry(order, &text[0..n], player, line, up, out)
 }
 
 // The same of the first n bytes that were kept; a line that is too long is an error.
@@ -152,7 +152,7 @@ fn on_kept(
         let w = put(b"error\n", out, player.waiting);
         return with_waiting(player, w);
     }
-    on_line(&mut text[..n], player, line, up, out)
+    on_line(&mut text[0..n], player, line, up, out)
 }
 
 // Keeps a byte of a line behind the first n, and answers how many are kept.
@@ -164,10 +164,11 @@ fn keep(b: u8, text: &mut [u8], n: usize) -> usize {
     TOO_LONG
 }
 
-// A player, and how many bytes are kept of a line that has not ended yet.
+// A player, how many bytes are kept of a line that has not ended yet, and whether the script has ended.
 struct Going {
     pub player: Player,
     pub kept: usize,
+    pub is_over: bool,
 }
 
 // A part of the script, which may begin and end inside a line.
@@ -195,7 +196,27 @@ fn on_part(
     Going {
         player: player,
         kept: kept,
+        is_over: false,
     }
+}
+
+// Reads on in the script, and plays what came.
+fn on_read(
+    going: Going,
+    script: &mut [u8],
+    text: &mut [u8],
+    line: &mut [u8],
+    up: &mut [u8],
+    out: &mut [u8],
+) -> Going {
+    let got = libc::read(STDIN_FILENO, script);
+    let n = io::count(got, script);
+    if n == 0 {
+        let mut over = going;
+        over.is_over = true;
+        return over;
+    }
+    on_part(&script[0..n], going, text, line, up, out)
 }
 
 // The last line, which may have no newline, and what still waits in the output buffer.
@@ -207,20 +228,16 @@ fn finish(going: Going, text: &mut [u8], line: &mut [u8], up: &mut [u8], out: &m
 
 // Plays the script on standard input. A proved loop has to end, and nothing says that the input does: it counts its turns down, from a number that no run uses up.
 pub fn play(script: &mut [u8], text: &mut [u8], line: &mut [u8], up: &mut [u8], out: &mut [u8]) {
-    fill(line, line.len());
-    fill(up, up.len());
+    fill(line);
+    fill(up);
     let mut going = Going {
         player: opened(),
         kept: 0,
+        is_over: false,
     };
     let mut turns = u64::MAX;
-    while turns > 0 {
-        let got = libc::read(STDIN_FILENO, script);
-        let n = io::count(got, script);
-        if n == 0 {
-            break;
-        }
-        going = on_part(&script[..n], going, text, line, up, out);
+    while turns > 0 && !going.is_over {
+        going = on_read(going, script, text, line, up, out);
         turns -= 1;
     }
     finish(going, text, line, up, out);

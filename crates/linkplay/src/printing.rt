@@ -5,7 +5,7 @@ use libc::STDOUT_FILENO;
 // Writes what waits: the first bytes of the buffer.
 pub fn flush(out: &[u8], waiting: usize) {
     if waiting <= out.len() {
-        io::write_all(STDOUT_FILENO, &out[..waiting]);
+        io::write_all(STDOUT_FILENO, &out[0..waiting]);
     }
 }
 
@@ -67,7 +67,7 @@ pub fn put_front(bytes: &[u8], n: usize, out: &mut [u8], waiting: usize) -> usiz
     if bytes.len() < n {
         return put_bytes(bytes, out, waiting);
     }
-    put_bytes(&bytes[..n], out, waiting)
+    put_bytes(&bytes[0..n], out, waiting)
 }
 
 // The end of a line of output.

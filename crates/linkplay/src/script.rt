@@ -3,7 +3,7 @@ use crate::verb::Shape;
 use crate::verb::Verb;
 use crate::verb::shape_of;
 use crate::verb::verb_of;
-ghost use Prim.Native.Nat.{_≤_};
+ghost use Prim.Native.Nat.{_+_, _≤_};
 ghost use lib.ListN.{length};
 
 // A lent buffer has at most as many bytes.
@@ -99,7 +99,7 @@ fn number_at(text: &[u8], at: usize) -> Number {
     if 9 < n {
         return Number::Wrong;
     }
-    number_of(&rest[..n], at + 1 + n)
+    number_of(&rest[0..n], at + 1 + n)
 }
 
 fn no_numbers(next: usize) -> Numbers {
@@ -150,10 +150,9 @@ fn with_more(numbers: Numbers, text: &[u8], count: usize, most: u32) -> Numbers 
 }
 
 // The byte that two hexadecimal digits spell behind the space at a place.
-fn byte_at(text: &[u8], at: usize) -> Spelt {
-    if text.len() - at < 3 {
-        return Spelt::Wrong;
-    }
+fn byte_at(text: &[u8], at: usize) -> Spelt
+    requires { ⌜ at + 3 ≤ length (now text) ⌝ }
+{
     if text[at] != b' ' {
         return Spelt::Wrong;
     }
@@ -170,9 +169,12 @@ fn byte_at(text: &[u8], at: usize) -> Spelt {
 
 // Puts the bytes that the words from a place on spell over the line's front. Each took three characters, so none is lost before it is read.
 fn spell(text: &mut [u8], from: usize) -> Bytes {
+    if text.len() < from {
+        return Bytes::Wrong;
+    }
     let mut at = from;
     let mut n = 0;
-    while at < text.len() {
+    while 3 <= text.len() - at {
         let spelt = byte_at(text, at);
         let Spelt::Byte(b) = spelt else {
             return Bytes::Wrong;
@@ -180,6 +182,9 @@ fn spell(text: &mut [u8], from: usize) -> Bytes {
         text[n] = b;
         n += 1;
         at += 3;
+    }
+    if at < text.len() {
+        return Bytes::Wrong;
     }
     Bytes::Count(n)
 }
@@ -215,7 +220,7 @@ fn with_bytes(verb: Verb, numbers: Numbers, text: &mut [u8], least: usize, most:
 // What a line asks for.
 pub fn order_of(text: &mut [u8]) -> Order {
     let end = word_end(text);
-    let verb = verb_of(&text[..end]);
+    let verb = verb_of(&text[0..end]);
     let shape = shape_of(verb);
     let sizes = with_more(no_numbers(end), text, shape.sizes, MOST_SIZE);
     let numbers = with_more(sizes, text, shape.numbers, MOST_NUMBER);
