@@ -7,24 +7,30 @@ use Rattle.link.proofs.step.byte_step.Reads as reads
 use Rattle.link.proofs.step.byte_step.Lts as lts
 use Rattle.link.proofs.hearing.hear_byte.Reads as hear-byte-reads
 use Rattle.link.proofs.step.decide_on.Reads as decide-on-reads
-use Rattle.link.proofs.step.kept.Reads as kept-reads
+use Rattle.link.proofs.step.keep.Reads as keep-reads
 
--- src/step.rt:120:9
+-- src/step.rt:114:9
 hear-byte-requires : tie.Need-hear-byte-requires
 hear-byte-requires c κs = search needs
 
--- src/step.rt:122:9
-kept-requires : tie.Need-kept-requires
-kept-requires c κs = search needs
+-- src/step.rt:116:10
+slice-aggregate-keep : tie.Need-slice-aggregate-keep
+slice-aggregate-keep c = search needs
 
--- src/step.rt:123:9
+-- src/step.rt:116:5
+keep-requires : tie.Need-keep-requires
+keep-requires c κs = search needs
+
+-- src/step.rt:117:9
 decide-on-requires : tie.Need-decide-on-requires
 decide-on-requires c κs = search needs
 
--- src/step.rt:113:1
+-- src/step.rt:107:1
 returns : tie.Need-returns
 unfolding byteOut
-returns c = simp (c .before .before .hear-byte .ensures, c .before .kept .ensures, c .decide-on .ensures)
+returns c = simp (c .before .before .before .before .hear-byte .ensures, c .before .before .keep .ensures, c .decide-on .ensures)
 
 pub byte-step-spec : {M : Type 1} → statement M
-byte-step-spec = tie.close (tie.spec hear-byte-requires kept-requires decide-on-requires returns)
+byte-step-spec =
+    tie.close
+    (tie.spec hear-byte-requires slice-aggregate-keep keep-requires decide-on-requires returns)

@@ -11,7 +11,7 @@ use Rattle.link.proofs.state.Link.bytes.Reads as reads
 use Rattle.link.proofs.state.Link.bytes.Lts as lts
 use Rattle.link.proofs.emit.written.Reads as written-reads
 use Rattle.link.proofs.step.link_of.Reads as link-of-reads
-use Rattle.link.proofs.step.run_step.Reads as run-step-reads
+use Rattle.link.proofs.run.run_step.Reads as run-step-reads
 
 -- src/calls.rt:75:13
 returns : tie.Need-returns
