@@ -1,4 +1,6 @@
 // Lent buffers: a pattern stands in them before each call, so that a byte written without being reported shows.
+ghost use Prim.Native.Nat.{_≤_};
+ghost use lib.ListN.{length};
 
 // The pattern's byte at a place.
 fn mark(i: usize) -> u8 {
@@ -34,4 +36,14 @@ pub fn restore(lent: &mut [u8], n: usize) {
     if n <= lent.len() {
         fill(&mut lent[0..n]);
     }
+}
+
+// The size of a part to lend, which a buffer has room for.
+pub fn within(n: usize, lent: &[u8]) -> usize
+    ensures { λ r. ⌜ r ≤ length (now (lent .entry)) ⌝ }
+{
+    if n <= lent.len() {
+        return n;
+    }
+    lent.len()
 }

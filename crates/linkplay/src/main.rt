@@ -1,4 +1,5 @@
 // linkplay: plays a script of calls on the link. The script comes on standard input, a line for each call goes out.
+mod body_calls;
 mod frame_calls;
 mod lent;
 mod link_calls;

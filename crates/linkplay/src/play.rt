@@ -1,20 +1,18 @@
 // The play: the script is read, cut into lines, and each line is carried out.
-use crate::frame_calls::build;
-use crate::frame_calls::read;
+use crate::body_calls::on_body;
+use crate::frame_calls::on_frame;
 use crate::lent::fill;
+use crate::lent::within;
 use crate::link_calls::Player;
 use crate::link_calls::on_link;
 use crate::printing::flush;
 use crate::printing::put;
 use crate::script::Order;
 use crate::script::order_of;
-use crate::verb::FrameVerb;
 use crate::verb::LinkVerb;
 use crate::verb::Verb;
 use libc::STDIN_FILENO;
 use link::Link;
-ghost use Prim.Native.Nat.{_≤_};
-ghost use lib.ListN.{length};
 
 // A line longer than the text buffer counts as this many bytes.
 const TOO_LONG: usize = 4097;
@@ -27,16 +25,6 @@ fn opened() -> Player {
         up: 254,
         waiting: 0,
     }
-}
-
-// The size of a part to lend, which a buffer has room for.
-fn least(n: usize, lent: &[u8]) -> usize
-    ensures { λ r. ⌜ r ≤ length (now (lent .entry)) ⌝ }
-{
-    if n <= lent.len() {
-        return n;
-    }
-    lent.len()
 }
 
 fn with_waiting(player: Player, waiting: usize) -> Player {
@@ -52,27 +40,6 @@ fn with_rooms(player: Player, line: usize, up: usize) -> Player {
     next
 }
 
-fn on_frame(
-    verb: FrameVerb,
-    size: usize,
-    bytes: &[u8],
-    lent: &mut [u8],
-    out: &mut [u8],
-    waiting: usize,
-) -> usize {
-    match verb {
-        FrameVerb::Build => {
-            let n = least(257, lent);
-            build(bytes, &mut lent[0..n], out, waiting)
-        }
-        FrameVerb::BuildRoom => {
-            let n = least(size, lent);
-            build(bytes, &mut lent[0..n], out, waiting)
-        }
-        FrameVerb::Read => read(bytes, out, waiting),
-    }
-}
-
 fn on_lent(
     verb: LinkVerb,
     count: u32,
@@ -82,8 +49,8 @@ fn on_lent(
     up: &mut [u8],
     out: &mut [u8],
 ) -> Player {
-    let n = least(player.line, line);
-    let k = least(player.up, up);
+    let n = within(player.line, line);
+    let k = within(player.up, up);
     on_link(
         verb,
         count,
@@ -112,6 +79,10 @@ fn carry(
             let w = on_frame(call, numbers[0] as usize, bytes, line, out, player.waiting);
             with_waiting(player, w)
         }
+        Verb::Body(call) => {
+            let w = on_body(call, numbers, bytes, line, out, player.waiting);
+            with_waiting(player, w)
+        }
         Verb::Room => with_rooms(player, numbers[0] as usize, numbers[1] as usize),
         Verb::Unknown => {
             let w = put(b"error\n", out, player.waiting);
@@ -135,7 +106,7 @@ fn on_line(
         return player;
     }
     let order = order_of(text);
-    let n = least(order.count, text);
+    let n = within(order.count, text);
     carry(order, &text[0..n], player, line, up, out)
 }
 

@@ -17,9 +17,19 @@ pub enum FrameVerb {
     Read,
 }
 
+pub enum BodyVerb {
+    Capabilities,
+    Nodes,
+    NodesRoom,
+    Timeouts,
+    TimeoutsRoom,
+    TimeoutsRes,
+}
+
 pub enum Verb {
     Link(LinkVerb),
     Frame(FrameVerb),
+    Body(BodyVerb),
     Room,
     Unknown,
 }
@@ -60,10 +70,7 @@ fn link_verb(word: &[u8]) -> Verb {
     Verb::Unknown
 }
 
-fn other_verb(word: &[u8]) -> Verb {
-    if same(word, b"room") {
-        return Verb::Room;
-    }
+fn frame_verb(word: &[u8]) -> Verb {
     if same(word, b"build") {
         return Verb::Frame(FrameVerb::Build);
     }
@@ -76,12 +83,41 @@ fn other_verb(word: &[u8]) -> Verb {
     Verb::Unknown
 }
 
-pub fn verb_of(word: &[u8]) -> Verb {
-    let verb = link_verb(word);
-    if let Verb::Unknown = verb {
-        return other_verb(word);
+fn body_verb(word: &[u8]) -> Verb {
+    if same(word, b"capabilities") {
+        return Verb::Body(BodyVerb::Capabilities);
     }
-    verb
+    if same(word, b"nodes") {
+        return Verb::Body(BodyVerb::Nodes);
+    }
+    if same(word, b"nodesroom") {
+        return Verb::Body(BodyVerb::NodesRoom);
+    }
+    if same(word, b"timeouts") {
+        return Verb::Body(BodyVerb::Timeouts);
+    }
+    if same(word, b"timeoutsroom") {
+        return Verb::Body(BodyVerb::TimeoutsRoom);
+    }
+    if same(word, b"timeoutsres") {
+        return Verb::Body(BodyVerb::TimeoutsRes);
+    }
+    Verb::Unknown
+}
+
+pub fn verb_of(word: &[u8]) -> Verb {
+    if same(word, b"room") {
+        return Verb::Room;
+    }
+    let link = link_verb(word);
+    let Verb::Unknown = link else {
+        return link;
+    };
+    let frame = frame_verb(word);
+    let Verb::Unknown = frame else {
+        return frame;
+    };
+    body_verb(word)
 }
 
 fn bytes(least: usize, most: usize) -> Shape {
@@ -132,10 +168,22 @@ fn frame_shape(verb: FrameVerb) -> Shape {
     }
 }
 
+fn body_shape(verb: BodyVerb) -> Shape {
+    match verb {
+        BodyVerb::Capabilities => bytes(0, MANY),
+        BodyVerb::Nodes => bytes(0, MANY),
+        BodyVerb::NodesRoom => sized(0),
+        BodyVerb::Timeouts => numbers(0, 2),
+        BodyVerb::TimeoutsRoom => numbers(1, 2),
+        BodyVerb::TimeoutsRes => bytes(0, MANY),
+    }
+}
+
 pub fn shape_of(verb: Verb) -> Shape {
     match verb {
         Verb::Link(on_link) => link_shape(on_link),
         Verb::Frame(on_frame) => frame_shape(on_frame),
+        Verb::Body(on_body) => body_shape(on_body),
         Verb::Room => numbers(2, 0),
         Verb::Unknown => bytes(0, MANY),
     }
