@@ -9,6 +9,7 @@ use crate::printing::put;
 use crate::printing::put_byte;
 use crate::printing::put_end;
 use crate::printing::put_front;
+use crate::printing::put_named;
 use crate::printing::put_number;
 use crate::verb::BodyVerb;
 use bodies::Capabilities;
@@ -58,6 +59,18 @@ fn list_functions(body: &[u8], list: &mut [u8; 255]) -> usize {
     n
 }
 
+fn put_list(list: &[u8; 255], n: usize, out: &mut [u8], waiting: usize) -> usize {
+    put_front(list, n, out, waiting)
+}
+
+// The functions that the body supports.
+fn put_functions(body: &[u8], out: &mut [u8], waiting: usize) -> usize {
+    let mut list = [0u8; 255];
+    let n = list_functions(body, &mut list);
+    let w = put(b" functions=", out, waiting);
+    put_list(&list, n, out, w)
+}
+
 // A number of two bytes, most significant first.
 fn put_word(word: u16, out: &mut [u8], waiting: usize) -> usize {
     let w = put_byte((word / 256) as u8, out, waiting);
@@ -74,15 +87,12 @@ fn put_fixed(found: Abilities, out: &mut [u8], waiting: usize) -> usize {
 }
 
 fn put_abilities(found: Abilities, body: &[u8], out: &mut [u8], waiting: usize) -> usize {
-    let mut list = [0u8; 255];
-    let n = list_functions(body, &mut list);
     let a = put(b"capabilities ok fixed=", out, waiting);
     let b = put_fixed(found, out, a);
     let c = put(b" count=", out, b);
     let d = put_number(found.supported as u64, out, c);
-    let e = put(b" functions=", out, d);
-    let f = put_front(&list, n, out, e);
-    put_end(false, out, f)
+    let e = put_functions(body, out, d);
+    put_end(false, out, e)
 }
 
 fn capabilities(body: &[u8], out: &mut [u8], waiting: usize) -> usize {
@@ -109,21 +119,22 @@ fn capabilities(body: &[u8], out: &mut [u8], waiting: usize) -> usize {
     }
 }
 
-fn put_network(found: Network, list: &mut [u8], out: &mut [u8], waiting: usize) -> usize {
+fn put_network(found: Network, list: &[u8], out: &mut [u8], waiting: usize) -> usize {
+    let a = put_named(b"nodes ok version=", found.version, out, waiting);
+    let b = put_named(b" capabilities=", found.capabilities, out, a);
+    let c = put(b" nodes=", out, b);
+    let d = put_front(list, found.count as usize, out, c);
+    let e = put_named(b" chip=", found.chip_type, out, d);
+    put_named(b" chipversion=", found.chip_version, out, e)
+}
+
+// The line of a node list that was read; the lent list is as before the call again.
+fn put_nodes(found: Network, list: &mut [u8], out: &mut [u8], waiting: usize) -> usize {
     let n = found.count as usize;
-    let a = put(b"nodes ok version=", out, waiting);
-    let b = put_byte(found.version, out, a);
-    let c = put(b" capabilities=", out, b);
-    let d = put_byte(found.capabilities, out, c);
-    let e = put(b" nodes=", out, d);
-    let f = put_front(list, n, out, e);
-    let g = put(b" chip=", out, f);
-    let h = put_byte(found.chip_type, out, g);
-    let i = put(b" chipversion=", out, h);
-    let j = put_byte(found.chip_version, out, i);
+    let w = put_network(found, list, out, waiting);
     let spilled = is_spilled(list, n);
     restore(list, n);
-    put_end(spilled, out, j)
+    put_end(spilled, out, w)
 }
 
 fn nodes(body: &[u8], list: &mut [u8], out: &mut [u8], waiting: usize) -> usize {
@@ -143,7 +154,7 @@ fn nodes(body: &[u8], list: &mut [u8], out: &mut [u8], waiting: usize) -> usize 
                 chip_type: chip_type,
                 chip_version: chip_version,
             };
-            put_network(found, list, out, waiting)
+            put_nodes(found, list, out, waiting)
         }
     }
 }

@@ -3,9 +3,9 @@ use crate::lent::is_spilled;
 use crate::lent::restore;
 use crate::lent::within;
 use crate::printing::put;
-use crate::printing::put_byte;
 use crate::printing::put_end;
 use crate::printing::put_front;
+use crate::printing::put_named;
 use crate::printing::put_refused;
 use crate::script::behind;
 use crate::script::spelt_at;
@@ -76,13 +76,11 @@ fn put_frame(
     out: &mut [u8],
     waiting: usize,
 ) -> usize {
-    let a = put(b"read ok type=", out, waiting);
-    let b = put_byte(kind, out, a);
-    let c = put(b" command=", out, b);
-    let d = put_byte(command, out, c);
-    let e = put(b" parameters=", out, d);
-    let f = put_front(parameters, count as usize, out, e);
-    put_end(false, out, f)
+    let a = put_named(b"read ok type=", kind, out, waiting);
+    let b = put_named(b" command=", command, out, a);
+    let c = put(b" parameters=", out, b);
+    let d = put_front(parameters, count as usize, out, c);
+    put_end(false, out, d)
 }
 
 fn read(bytes: &[u8], out: &mut [u8], waiting: usize) -> usize {

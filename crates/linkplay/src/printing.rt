@@ -48,6 +48,12 @@ pub fn put_byte(b: u8, out: &mut [u8], waiting: usize) -> usize {
     put(&pair, out, waiting)
 }
 
+// A byte behind its name.
+pub fn put_named(name: &[u8], b: u8, out: &mut [u8], waiting: usize) -> usize {
+    let w = put(name, out, waiting);
+    put_byte(b, out, w)
+}
+
 // Bytes as hexadecimal digits, `-` where there are none.
 pub fn put_bytes(bytes: &[u8], out: &mut [u8], waiting: usize) -> usize {
     if bytes.len() == 0 {
