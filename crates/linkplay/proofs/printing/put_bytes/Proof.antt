@@ -1,14 +1,11 @@
+-- `linkplay::printing::put_bytes` is safe and ends. The invariant: the output buffer keeps its length.
+-- Assumes nothing.
 use borrow.Author.Needs.{needs}
-use Prim.Native.Nat.{_≤_, _-_, _<_, _^_}
+use Prim.Native.Nat.{_-_}
 use mathlib.Core.Path.{_≡_}
-use native.Mathlib.Omega.{arith}
 use lib.ListN.{length}
 use Rattle.linkplay.proofs.printing.put_bytes.Statement.{statement}
 use Rattle.linkplay.proofs.printing.put_bytes.Tie as tie
-use Rattle.linkplay.proofs.printing.put_bytes.Reads as reads
-use Rattle.linkplay.proofs.printing.put_bytes.Lts as lts
-use Rattle.linkplay.proofs.printing.put.Reads as put-reads
-use Rattle.linkplay.proofs.printing.put_byte.Reads as put-byte-reads
 
 abbrev Inv-loop : tie.InvT-loop
 Inv-loop bytes out₀ waiting now₀ i₀ out now i = length out ≡ length out₀
@@ -16,51 +13,39 @@ Inv-loop bytes out₀ waiting now₀ i₀ out now i = length out ≡ length out�
 abbrev μ-loop : tie.MeasureT-loop
 μ-loop bytes out₀ waiting now₀ i₀ out now i = length bytes - i
 
--- src/printing.rt:54:20
 slice-aggregate-put : tie.Need-slice-aggregate-put Inv-loop μ-loop
 slice-aggregate-put c = search needs
 
--- src/printing.rt:54:9
 put-requires : tie.Need-put-requires Inv-loop μ-loop
 put-requires c κs = search needs
 
--- src/printing.rt:54:9
 same-length : tie.Need-same-length Inv-loop μ-loop
 same-length c = search needs
 
--- src/printing.rt:54:9
 returns : tie.Need-returns Inv-loop μ-loop
 returns c = search needs
 
--- src/printing.rt:58:5
 loop-holds : tie.Need-loop-holds Inv-loop μ-loop
 loop-holds c = search needs
 
--- src/printing.rt:59:24
 shared-slice-read-put-byte : tie.Need-shared-slice-read-put-byte Inv-loop μ-loop
 shared-slice-read-put-byte c = search needs
 
--- src/printing.rt:59:9
 put-byte-requires : tie.Need-put-byte-requires Inv-loop μ-loop
 put-byte-requires c κs = search needs
 
--- src/printing.rt:60:9
 add-i : tie.Need-add-i Inv-loop μ-loop
 add-i c = search needs
 
--- src/printing.rt:58:5
 loop-less : tie.Need-loop-less Inv-loop μ-loop
 loop-less c = search needs
 
--- src/printing.rt:58:5
 loop-again : tie.Need-loop-again Inv-loop μ-loop
 loop-again c = search needs
 
--- src/printing.rt:52:1
 same-length-2 : tie.Need-same-length-2 Inv-loop μ-loop
 same-length-2 c = search needs
 
--- src/printing.rt:52:1
 returns-2 : tie.Need-returns-2 Inv-loop μ-loop
 returns-2 c = search needs
 

@@ -1,13 +1,11 @@
+-- `linkplay::script::spell` is safe and ends. The invariant: the bytes put over the front are behind the place that is read.
+-- Assumes nothing.
 use borrow.Author.Needs.{needs}
-use Prim.Native.Nat.{_≤_, _-_, _<_, _^_}
+use Prim.Native.Nat.{_≤_, _-_}
 use mathlib.Core.Path.{_≡_}
-use native.Mathlib.Omega.{arith}
 use lib.ListN.{length}
 use Rattle.linkplay.proofs.script.spell.Statement.{statement}
 use Rattle.linkplay.proofs.script.spell.Tie as tie
-use Rattle.linkplay.proofs.script.spell.Reads as reads
-use Rattle.linkplay.proofs.script.spell.Lts as lts
-use Rattle.linkplay.proofs.script.byte_at.Reads as byte-at-reads
 
 abbrev Inv-loop : tie.InvT-loop
 Inv-loop text₀ from at₀ n₀ text at n = (length text ≡ length text₀) × (at ≤ length text₀) × (n ≤ at)
@@ -15,71 +13,54 @@ Inv-loop text₀ from at₀ n₀ text at n = (length text ≡ length text₀) ×
 abbrev μ-loop : tie.MeasureT-loop
 μ-loop text₀ from at₀ n₀ text at n = length text₀ - at
 
--- src/script.rt:173:9
 returns : tie.Need-returns Inv-loop μ-loop
 returns c = search needs
 
--- src/script.rt:177:5
 loop-holds : tie.Need-loop-holds Inv-loop μ-loop
 loop-holds c = search needs
 
--- src/script.rt:177:16
 sub-loop : tie.Need-sub-loop Inv-loop μ-loop
 sub-loop c = search needs
 
--- src/script.rt:178:13
 byte-at-requires : tie.Need-byte-at-requires Inv-loop μ-loop
 byte-at-requires c κs = search needs
 
--- src/script.rt:179:25
 enum-known-spelt : tie.Need-enum-known-spelt Inv-loop μ-loop
 enum-known-spelt c = search needs
 
--- src/script.rt:180:13
 enum-told : tie.Need-enum-told Inv-loop μ-loop
 enum-told c = search needs
 
--- src/script.rt:180:13
 same-length : tie.Need-same-length Inv-loop μ-loop
 same-length c = search needs
 
--- src/script.rt:180:13
 returns-2 : tie.Need-returns-2 Inv-loop μ-loop
 returns-2 c = search needs
 
--- src/script.rt:182:9
 slice-write-text : tie.Need-slice-write-text Inv-loop μ-loop
 slice-write-text c = search needs
 
--- src/script.rt:183:9
 add-n : tie.Need-add-n Inv-loop μ-loop
 add-n c = search needs
 
--- src/script.rt:184:9
 add-at : tie.Need-add-at Inv-loop μ-loop
 add-at c = search needs
 
--- src/script.rt:177:5
 loop-less : tie.Need-loop-less Inv-loop μ-loop
 loop-less c = search needs
 
--- src/script.rt:177:5
 loop-again : tie.Need-loop-again Inv-loop μ-loop
 loop-again c = search needs
 
--- src/script.rt:187:9
 same-length-2 : tie.Need-same-length-2 Inv-loop μ-loop
 same-length-2 c = search needs
 
--- src/script.rt:187:9
 returns-3 : tie.Need-returns-3 Inv-loop μ-loop
 returns-3 c = search needs
 
--- src/script.rt:171:1
 same-length-3 : tie.Need-same-length-3 Inv-loop μ-loop
 same-length-3 c = search needs
 
--- src/script.rt:171:1
 returns-4 : tie.Need-returns-4 Inv-loop μ-loop
 returns-4 c = search needs
 
