@@ -1,5 +1,7 @@
-pub mod Runs
 pub mod Sizes
 pub mod Opened
 pub mod Ways
 pub mod Puts
+pub mod Theorems
+pub mod Hears
+pub mod Walks

@@ -32,8 +32,12 @@ abbrev pub check : Bool → Refusal → Checked → Checked
 check met refusal rest = pick met (refuses refusal) rest
 
 -- ROOM first, needing 258 bytes for the line and 254 for the frame handed up; then the call's own checks.
+abbrev pub roomChecks : ℕ → ℕ → Checked → Checked
+roomChecks line up own = check (ltb line 258) Room (check (ltb up 254) Room own)
+
+-- by the lent buffers
 abbrev pub checks : List ℕ → List ℕ → Checked → Checked
-checks line up own = check (ltb (length line) 258) Room (check (ltb (length up) 254) Room own)
+checks line up own = roomChecks (length line) (length up) own
 
 -- Send goes on with BUSY, KIND, LONG; session, which is always REQ, with BUSY, LONG.
 abbrev pub sendChecks : Link → ℕ → ℕ → Checked

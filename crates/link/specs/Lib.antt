@@ -4,4 +4,5 @@ pub mod Job
 pub mod Report
 pub mod State
 pub mod Step
+pub mod Run
 pub mod Calls

@@ -4,6 +4,7 @@ mod emit;
 mod hearing;
 mod job;
 mod report;
+mod run;
 mod state;
 mod step;
 

@@ -18,10 +18,6 @@ use crate::report::Said;
 use crate::report::Sending;
 use crate::report::Sums;
 use crate::report::either;
-use crate::report::news_reception;
-use crate::report::news_reset;
-use crate::report::news_sending;
-use crate::report::news_session;
 use crate::report::run_of;
 use crate::report::said_on;
 use crate::report::saying;
@@ -83,30 +79,27 @@ pub fn decide_on(core: Core, heard: Heard) -> Decision
 }
 
 // A body byte is kept at its place. The guard is for links that no call makes.
-fn stored(body: [u8; 254], at: u8, b: u8) -> [u8; 254]
-    ensures { λ r. ⌜ r ≡ set body at b ⌝ }
+fn store(body: &mut [u8], at: u8, b: u8)
+    ensures { λ _. ⌜ now (body .exit) ≡ set (now (body .entry)) at b ⌝ }
 {
-    let mut next = body;
-    if at < 254 {
-        let i = at as usize;
-        next[i] = b;
-        return next;
+    let i = at as usize;
+    if i < body.len() {
+        body[i] = b;
     }
-    next
 }
 
-fn kept(body: [u8; 254], event: Event, b: u8) -> [u8; 254]
-    ensures { λ r. ⌜ r ≡ hearing.keep event b body ⌝ }
+pub fn keep(body: &mut [u8], event: Event, b: u8)
+    ensures { λ _. ⌜ now (body .exit) ≡ hearing.keep event b (now (body .entry)) ⌝ }
 {
     match event {
-        Event::Inside => body,
-        Event::Kept { at } => stored(body, at, b),
-        Event::Skipped => body,
-        Event::Alone(_) => body,
-        Event::Ended(_) => body,
-        Event::TickHunting => body,
-        Event::TickInside => body,
-        Event::Aborted => body,
+        Event::Inside => {}
+        Event::Kept { at } => store(body, at, b),
+        Event::Skipped => {}
+        Event::Alone(_) => {}
+        Event::Ended(_) => {}
+        Event::TickHunting => {}
+        Event::TickInside => {}
+        Event::Aborted => {}
     }
 }
 
@@ -116,14 +109,14 @@ pub fn byte_step(link: Link, b: u8) -> Step
 {
     let core = link.core;
     let frame = link.frame;
-    let body = link.body;
+    let mut body = link.body;
     let before = core.hearing;
     let heard = hear_byte(before, b);
     let event = heard.event;
-    let next = kept(body, event, b);
+    keep(&mut body, event, b);
     let decision = decide_on(core, heard);
     Step {
-        body: next,
+        body: body,
         frame: frame,
         decision: decision,
     }
@@ -202,27 +195,6 @@ pub fn restart_step(link: Link) -> Step
     }
 }
 
-// A report that is more than "nothing" or "skipped".
-fn news(step: Step) -> bool
-    ensures { λ r. ⌜ r ≡ spec.news (spec.stepOut step) ⌝ }
-{
-    let d = step.decision;
-    let reception = d.reception;
-    let sending = d.sending;
-    let session = d.session;
-    let reset = d.reset;
-    if news_reception(reception) {
-        return true;
-    }
-    if news_sending(sending) {
-        return true;
-    }
-    if news_session(session) {
-        return true;
-    }
-    news_reset(reset)
-}
-
 // The link that a step leaves.
 pub fn link_of(step: Step) -> Link
     ensures { λ r. ⌜ r ≡ spec.stepOut step .link ⌝ }
@@ -235,45 +207,5 @@ pub fn link_of(step: Step) -> Link
         core: core,
         body: body,
         frame: frame,
-    }
-}
-
-// A call that does nothing and reports nothing.
-fn quiet(link: Link) -> Step
-    ensures { λ r. ⌜ spec.stepOut r ≡ spec.quiet link ⌝ }
-{
-    let core = link.core;
-    let body = link.body;
-    let frame = link.frame;
-    let hearing = core.hearing;
-    let job = core.job;
-    let said = saying(Reception::Nothing, Reply::Silent, 0);
-    let sums = run_of(core.bad, Reset::Nothing);
-    let act = goes_on(job, Sending::Nothing);
-    let decision = decided(hearing, core.size, said, sums, act);
-    Step {
-        body: body,
-        frame: frame,
-        decision: decision,
-    }
-}
-
-// A run of bytes, up to the first that has news.
-pub fn run_step(link: Link, bytes: &[u8]) -> Stretch
-    ensures { λ r. ⌜ spec.taking r ≡ spec.runOut base link (now (bytes .entry)) ⌝ }
-{
-    let mut step = quiet(link);
-    let mut i = 0;
-    while i < bytes.len() {
-        let l = link_of(step);
-        step = byte_step(l, bytes[i]);
-        i += 1;
-        if news(step) {
-            break;
-        }
-    }
-    Stretch {
-        step: step,
-        taken: i,
     }
 }

@@ -1,4 +1,6 @@
-use mathlib.Core.Path.{_≡_, ap}
+-- `link::emit::emit` meets its contract.
+-- Assumes nothing.
+use mathlib.Core.Path.{ap}
 use denote.Ref.{now}
 use Rattle.link.specs.declared.state.Link.{Link}
 use Rattle.link.specs.declared.calls.Answer.the-variants as answer
@@ -8,28 +10,19 @@ use Rattle.link.proofs.Ways.{roomy, give}
 use borrow.Author.Needs.{needs}
 use Rattle.link.proofs.emit.emit.Statement.{statement}
 use Rattle.link.proofs.emit.emit.Tie as tie
-use Rattle.link.proofs.emit.emit.Reads as reads
-use Rattle.link.proofs.emit.emit.Lts as lts
-use Rattle.link.proofs.emit.written.Reads as written-reads
-use Rattle.link.proofs.step.link_of.Reads as link-of-reads
 
--- src/emit.rt:100:9
 link-of-requires : tie.Need-link-of-requires
 link-of-requires c κs = search needs
 
--- src/emit.rt:101:9
 written-requires : tie.Need-written-requires
 written-requires c κs = search needs
 
--- src/emit.rt:96:1
 same-length : tie.Need-same-length
 same-length c = search needs
 
--- src/emit.rt:96:1
 same-length-2 : tie.Need-same-length-2
 same-length-2 c = search needs
 
--- src/emit.rt:96:1
 returns : tie.Need-returns
 returns c =
     let st = c .before .before .before .before .before .before .before .before .before .before in

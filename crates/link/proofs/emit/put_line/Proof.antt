@@ -1,3 +1,5 @@
+-- `link::emit::put_line` meets its contract.
+-- Assumes nothing.
 use mathlib.Core.Path.{_≡_, sym, ap, _∙_}
 use mathlib.Core.List.{List, append-nil}
 use Prim.Native.Nat.{ℕ, _+_, _≤_}
@@ -11,33 +13,22 @@ use Rattle.link.proofs.Puts.{reply-short, put-behind}
 use borrow.Author.Needs.{needs}
 use Rattle.link.proofs.emit.put_line.Statement.{statement}
 use Rattle.link.proofs.emit.put_line.Tie as tie
-use Rattle.link.proofs.emit.put_line.Reads as reads
-use Rattle.link.proofs.emit.put_line.Lts as lts
-use Rattle.frame.proofs.lay.Reads as lay-reads
-use Rattle.link.proofs.emit.least.Reads as least-reads
-use Rattle.link.proofs.emit.put_reply.Reads as put-reply-reads
 
--- src/emit.rt:50:9
 put-reply-requires : tie.Need-put-reply-requires
 put-reply-requires c κs = search needs
 
--- src/emit.rt:52:17
 least-requires : tie.Need-least-requires
 least-requires c κs = search needs
 
--- src/emit.rt:52:17
 cast-n : tie.Need-cast-n
 cast-n c = search needs
 
--- src/emit.rt:53:20
 slice-aggregate-lay : tie.Need-slice-aggregate-lay
 slice-aggregate-lay c = search needs
 
--- src/emit.rt:53:9
 lay-requires : tie.Need-lay-requires
 lay-requires c κs = search needs
 
--- src/emit.rt:54:17
 add-result : tie.Need-add-result
 add-result c =
     let st = c .before .before .before .before .before .before .before .before .before .before .before .before in
@@ -46,7 +37,6 @@ add-result c =
     let n = c .before .before .before .before .before .least .ensures in
     omega (arith, put .0, reply-short (a .reply), n, min-le-right (a .size) 257)
 
--- src/emit.rt:54:16
 cast-result : tie.Need-cast-result
 cast-result c =
     let st = c .before .before .before .before .before .before .before .before .before .before .before .before in
@@ -55,11 +45,9 @@ cast-result c =
     let n = c .before .before .before .before .before .least .ensures in
     omega (arith, put .0, reply-short (a .reply), n, min-le-right (a .size) 257)
 
--- src/emit.rt:54:9
 same-length : tie.Need-same-length
 same-length c = search needs
 
--- src/emit.rt:54:9
 returns : tie.Need-returns
 returns c =
     let st = c .before .before .before .before .before .before .before .before .before .before .before .before in
@@ -71,18 +59,15 @@ returns c =
     simp (c .before .before .before .before .before .before .if1 .taken)
     (put-behind (replyBytes (a .reply)) (a .t3) (now (a .line)) (a .size) _ _ (put .0) (put .1) (simp z n) room (c .before .before .lay .ensures))
 
--- src/emit.rt:56:5
 cast-result-2 : tie.Need-cast-result-2
 cast-result-2 c =
     let st = c .before .before .before .before .before .before in
     let put = c .before .before .before .put-reply .ensures in
     omega (arith, put .0, reply-short (st .args .reply))
 
--- src/emit.rt:46:1
 same-length-2 : tie.Need-same-length-2
 same-length-2 c = search needs
 
--- src/emit.rt:46:1
 returns-2 : tie.Need-returns-2
 returns-2 c =
     let st = c .before .before .before .before .before .before in

@@ -1,3 +1,5 @@
+-- `link::emit::put_reply` meets its contract.
+-- Assumes nothing.
 use mathlib.Core.Path.{refl}
 use native.Mathlib.Omega.{arith}
 use denote.Ref.{now}
@@ -5,48 +7,36 @@ use Rattle.frame.proofs.Over.{over-one}
 use borrow.Author.Needs.{needs}
 use Rattle.link.proofs.emit.put_reply.Statement.{statement}
 use Rattle.link.proofs.emit.put_reply.Tie as tie
-use Rattle.link.proofs.emit.put_reply.Reads as reads
-use Rattle.link.proofs.emit.put_reply.Lts as lts
 
--- src/emit.rt:33:26
 enum-told : tie.Need-enum-told
 enum-told c = search needs
 
--- src/emit.rt:35:13
 enum-told-2 : tie.Need-enum-told-2
 enum-told-2 c = search needs
 
--- src/emit.rt:35:13
 slice-write-line : tie.Need-slice-write-line
 slice-write-line c = search needs
 
--- src/emit.rt:39:13
 enum-told-3 : tie.Need-enum-told-3
 enum-told-3 c = search needs
 
--- src/emit.rt:39:13
 slice-write-line-2 : tie.Need-slice-write-line-2
 slice-write-line-2 c = search needs
 
--- src/emit.rt:28:1
 returns : tie.Need-returns
 returns c = search needs
 
--- src/emit.rt:28:1
 same-length : tie.Need-same-length
 same-length c = search needs
 
--- src/emit.rt:28:1
 returns-2 : tie.Need-returns-2
 returns-2 c =
     let st = c .before .before in
     simp (c .enum-told2 .given .1) (refl, over-one (now (st .args .line)) 6 (omega (arith, st .pre)))
 
--- src/emit.rt:28:1
 same-length-2 : tie.Need-same-length-2
 same-length-2 c = search needs
 
--- src/emit.rt:28:1
 returns-3 : tie.Need-returns-3
 returns-3 c =
     let st = c .before .before in

@@ -1,25 +1,21 @@
+-- `link::hearing::body_tick` meets its contract.
+-- Assumes nothing.
 use borrow.Author.Tests.{lt-ltb, le-ltb}
 use native.Mathlib.Omega.{arith}
-use Prim.Native.Nat.{_+_, _<_, _≤_}
+use Prim.Native.Nat.{_+_}
 use borrow.Author.Needs.{needs}
 use Rattle.link.proofs.hearing.body_tick.Statement.{statement}
 use Rattle.link.proofs.hearing.body_tick.Tie as tie
-use Rattle.link.proofs.hearing.body_tick.Reads as reads
-use Rattle.link.proofs.hearing.body_tick.Lts as lts
 
--- src/hearing.rt:227:9
 cast-if1 : tie.Need-cast-if1
 cast-if1 c = search needs
 
--- src/hearing.rt:229:22
 add-next : tie.Need-add-next
 add-next c = search needs
 
--- src/hearing.rt:230:9
 returns : tie.Need-returns
 returns c = simp (lt-ltb (c .before .before .args .p .clock + 1) 1501 (omega arith))
 
--- src/hearing.rt:222:1
 returns-2 : tie.Need-returns-2
 returns-2 c = simp (le-ltb (c .before .before .args .p .clock + 1) 1501 (omega arith))
 

@@ -1,18 +1,15 @@
-use borrow.Author.Tests.{eq-eqb, ne-eqb, lt-ltb, le-ltb, le-leb, lt-leb}
+-- `link::hearing::ended` meets its contract.
+-- Assumes nothing.
+use borrow.Author.Tests.{eq-eqb, ne-eqb}
 use Rattle.link.proofs.hearing.ended.Statement.{statement}
 use Rattle.link.proofs.hearing.ended.Tie as tie
-use Rattle.link.proofs.hearing.ended.Reads as reads
-use Rattle.link.proofs.hearing.ended.Lts as lts
 
--- src/hearing.rt:157:9
 returns : tie.Need-returns
 returns c = simp (eq-eqb _ _ (c .if1 .taken))
 
--- src/hearing.rt:160:9
 returns-2 : tie.Need-returns-2
 returns-2 c = simp (ne-eqb _ _ (c .before .if1 .left), eq-eqb _ _ (c .if2 .taken))
 
--- src/hearing.rt:152:1
 returns-3 : tie.Need-returns-3
 returns-3 c = simp (ne-eqb _ _ (c .before .if1 .left), ne-eqb _ _ (c .if2 .left))
 

@@ -1,29 +1,22 @@
-use borrow.Author.Tests.{eq-eqb, ne-eqb, lt-ltb, le-ltb, le-leb, lt-leb}
+-- `link::hearing::followed` meets its contract.
+-- Assumes nothing.
+use borrow.Author.Tests.{eq-eqb, ne-eqb, lt-ltb, le-ltb}
 use borrow.Author.Needs.{needs}
 use Rattle.link.proofs.hearing.followed.Statement.{statement}
 use Rattle.link.proofs.hearing.followed.Tie as tie
-use Rattle.link.proofs.hearing.followed.Reads as reads
-use Rattle.link.proofs.hearing.followed.Lts as lts
-use Rattle.link.proofs.hearing.ended.Reads as ended-reads
-use Rattle.link.proofs.hearing.more.Reads as more-reads
 
--- src/hearing.rt:176:13
 more-requires : tie.Need-more-requires
 more-requires c κs = search needs
 
--- src/hearing.rt:177:9
 returns : tie.Need-returns
 returns c = simp (lt-ltb _ _ (c .before .if1 .taken), c .more .ensures)
 
--- src/hearing.rt:183:13
 ended-requires : tie.Need-ended-requires
 ended-requires c κs = search needs
 
--- src/hearing.rt:184:9
 returns-2 : tie.Need-returns-2
 returns-2 c = simp (le-ltb _ _ (c .before .before .if1 .left), eq-eqb _ _ (c .before .if2 .taken)) (cc (c .ended .ensures))
 
--- src/hearing.rt:169:1
 returns-3 : tie.Need-returns-3
 returns-3 c = simp (le-ltb _ _ (c .before .if1 .left), ne-eqb _ _ (c .if2 .left))
 

@@ -1,19 +1,16 @@
-use borrow.Author.Tests.{eq-eqb, ne-eqb, lt-ltb, le-ltb, le-leb, lt-leb}
+-- `link::job::next_copy` meets its contract.
+-- Assumes nothing.
+use borrow.Author.Tests.{lt-ltb, le-ltb}
 use borrow.Author.Needs.{needs}
 use Rattle.link.proofs.job.next_copy.Statement.{statement}
 use Rattle.link.proofs.job.next_copy.Tie as tie
-use Rattle.link.proofs.job.next_copy.Reads as reads
-use Rattle.link.proofs.job.next_copy.Lts as lts
 
--- src/job.rt:76:16
 add-result : tie.Need-add-result
 add-result c = search needs
 
--- src/job.rt:76:9
 returns : tie.Need-returns
 returns c = simp (lt-ltb _ _ (c .if1 .taken))
 
--- src/job.rt:72:1
 returns-2 : tie.Need-returns-2
 returns-2 c = simp (le-ltb _ _ (c .if1 .left))
 

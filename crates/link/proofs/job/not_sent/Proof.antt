@@ -1,23 +1,18 @@
-use borrow.Author.Tests.{eq-eqb, ne-eqb, lt-ltb, le-ltb, le-leb, lt-leb}
+-- `link::job::not_sent` meets its contract.
+-- Assumes nothing.
 use borrow.Author.Needs.{needs}
 use Rattle.link.proofs.job.not_sent.Statement.{statement}
 use Rattle.link.proofs.job.not_sent.Tie as tie
-use Rattle.link.proofs.job.not_sent.Reads as reads
-use Rattle.link.proofs.job.not_sent.Lts as lts
 
--- src/job.rt:119:26
 enum-told : tie.Need-enum-told
 enum-told c = search needs
 
--- src/job.rt:120:40
 enum-told-2 : tie.Need-enum-told-2
 enum-told-2 c = search needs
 
--- src/job.rt:115:1
 returns : tie.Need-returns
 returns c = search needs
 
--- src/job.rt:115:1
 returns-2 : tie.Need-returns-2
 returns-2 c = simp (c .enum-told2 .given .1)
 

@@ -1,69 +1,51 @@
-use borrow.Author.Tests.{eq-eqb, ne-eqb, lt-ltb, le-ltb, le-leb, lt-leb}
+-- `link::job::on_abort` meets its contract.
+-- Assumes nothing.
 use borrow.Author.Needs.{needs}
 use Rattle.link.proofs.job.on_abort.Statement.{statement}
 use Rattle.link.proofs.job.on_abort.Tie as tie
-use Rattle.link.proofs.job.on_abort.Reads as reads
-use Rattle.link.proofs.job.on_abort.Lts as lts
-use Rattle.link.proofs.job.on_tick.Reads as on-tick-reads
-use Rattle.link.proofs.job.put_out.Reads as put-out-reads
 
--- src/job.rt:431:22
 enum-told : tie.Need-enum-told
 enum-told c = search needs
 
--- src/job.rt:431:22
 on-tick-requires : tie.Need-on-tick-requires
 on-tick-requires c κs = search needs
 
--- src/job.rt:432:20
 enum-known-job : tie.Need-enum-known-job
 enum-known-job c = search needs
 
--- src/job.rt:432:40
 put-out-requires : tie.Need-put-out-requires
 put-out-requires c κs = search needs
 
--- src/job.rt:437:14
 enum-told-2 : tie.Need-enum-told-2
 enum-told-2 c = search needs
 
--- src/job.rt:437:14
 on-tick-requires-2 : tie.Need-on-tick-requires-2
 on-tick-requires-2 c κs = search needs
 
--- src/job.rt:442:14
 enum-told-3 : tie.Need-enum-told-3
 enum-told-3 c = search needs
 
--- src/job.rt:442:14
 on-tick-requires-3 : tie.Need-on-tick-requires-3
 on-tick-requires-3 c κs = search needs
 
--- src/job.rt:447:14
 enum-told-4 : tie.Need-enum-told-4
 enum-told-4 c = search needs
 
--- src/job.rt:447:14
 on-tick-requires-4 : tie.Need-on-tick-requires-4
 on-tick-requires-4 c κs = search needs
 
--- src/job.rt:427:1
 returns : tie.Need-returns
 returns c = search needs
 
--- src/job.rt:427:1
 returns-2 : tie.Need-returns-2
 returns-2 c = simp (c .before .before .job .given .1, c .put-out .ensures)
 
--- src/job.rt:427:1
 returns-3 : tie.Need-returns-3
 returns-3 c = simp (c .before .enum-told2 .given .1, c .on-tick2 .ensures)
 
--- src/job.rt:427:1
 returns-4 : tie.Need-returns-4
 returns-4 c = simp (c .before .enum-told3 .given .1, c .on-tick3 .ensures)
 
--- src/job.rt:427:1
 returns-5 : tie.Need-returns-5
 returns-5 c = search needs
 

@@ -1,69 +1,51 @@
-use borrow.Author.Tests.{eq-eqb, ne-eqb, lt-ltb, le-ltb, le-leb, lt-leb}
+-- `link::job::on_end` meets its contract.
+-- Assumes nothing.
 use borrow.Author.Needs.{needs}
 use Rattle.link.proofs.job.on_end.Statement.{statement}
 use Rattle.link.proofs.job.on_end.Tie as tie
-use Rattle.link.proofs.job.on_end.Reads as reads
-use Rattle.link.proofs.job.on_end.Lts as lts
-use Rattle.link.proofs.job.on_response.Reads as on-response-reads
-use Rattle.link.proofs.job.release.Reads as release-reads
 
--- src/job.rt:324:27
 enum-told : tie.Need-enum-told
 enum-told c = search needs
 
--- src/job.rt:324:27
 release-requires : tie.Need-release-requires
 release-requires c κs = search needs
 
--- src/job.rt:325:24
 enum-told-2 : tie.Need-enum-told-2
 enum-told-2 c = search needs
 
--- src/job.rt:325:24
 release-requires-2 : tie.Need-release-requires-2
 release-requires-2 c κs = search needs
 
--- src/job.rt:326:26
 enum-told-3 : tie.Need-enum-told-3
 enum-told-3 c = search needs
 
--- src/job.rt:326:26
 release-requires-3 : tie.Need-release-requires-3
 release-requires-3 c κs = search needs
 
--- src/job.rt:327:37
 enum-told-4 : tie.Need-enum-told-4
 enum-told-4 c = search needs
 
--- src/job.rt:327:37
 release-requires-4 : tie.Need-release-requires-4
 release-requires-4 c κs = search needs
 
--- src/job.rt:328:34
 enum-known-end : tie.Need-enum-known-end
 enum-known-end c = search needs
 
--- src/job.rt:328:47
 on-response-requires : tie.Need-on-response-requires
 on-response-requires c κs = search needs
 
--- src/job.rt:320:1
 returns : tie.Need-returns
 returns c = search needs
 
--- src/job.rt:320:1
 returns-2 : tie.Need-returns-2
 returns-2 c = search needs
 
--- src/job.rt:320:1
 returns-3 : tie.Need-returns-3
 returns-3 c = search needs
 
--- src/job.rt:320:1
 returns-4 : tie.Need-returns-4
 returns-4 c = search needs
 
--- src/job.rt:320:1
 returns-5 : tie.Need-returns-5
 returns-5 c = simp (c .before .before .end .given .1, c .on-response .ensures)
 

@@ -1,108 +1,78 @@
-use borrow.Author.Tests.{eq-eqb, ne-eqb, lt-ltb, le-ltb, le-leb, lt-leb}
+-- `link::job::on_event` meets its contract.
+-- Assumes nothing.
 use borrow.Author.Needs.{needs}
 use Rattle.link.proofs.job.on_event.Statement.{statement}
 use Rattle.link.proofs.job.on_event.Tie as tie
-use Rattle.link.proofs.job.on_event.Reads as reads
-use Rattle.link.proofs.job.on_event.Lts as lts
-use Rattle.link.proofs.job.goes_on.Reads as goes-on-reads
-use Rattle.link.proofs.job.on_abort.Reads as on-abort-reads
-use Rattle.link.proofs.job.on_end.Reads as on-end-reads
-use Rattle.link.proofs.job.on_single.Reads as on-single-reads
-use Rattle.link.proofs.job.on_tick.Reads as on-tick-reads
 
--- src/job.rt:456:39
 enum-told : tie.Need-enum-told
 enum-told c = search needs
 
--- src/job.rt:456:26
 goes-on-requires : tie.Need-goes-on-requires
 goes-on-requires c κs = search needs
 
--- src/job.rt:457:47
 enum-told-2 : tie.Need-enum-told-2
 enum-told-2 c = search needs
 
--- src/job.rt:457:34
 goes-on-requires-2 : tie.Need-goes-on-requires-2
 goes-on-requires-2 c κs = search needs
 
--- src/job.rt:458:40
 enum-told-3 : tie.Need-enum-told-3
 enum-told-3 c = search needs
 
--- src/job.rt:458:27
 goes-on-requires-3 : tie.Need-goes-on-requires-3
 goes-on-requires-3 c κs = search needs
 
--- src/job.rt:459:22
 enum-known-event : tie.Need-enum-known-event
 enum-known-event c = search needs
 
--- src/job.rt:459:33
 on-single-requires : tie.Need-on-single-requires
 on-single-requires c κs = search needs
 
--- src/job.rt:460:22
 enum-known-event-2 : tie.Need-enum-known-event-2
 enum-known-event-2 c = search needs
 
--- src/job.rt:460:30
 on-end-requires : tie.Need-on-end-requires
 on-end-requires c κs = search needs
 
--- src/job.rt:461:31
 enum-told-4 : tie.Need-enum-told-4
 enum-told-4 c = search needs
 
--- src/job.rt:461:31
 on-tick-requires : tie.Need-on-tick-requires
 on-tick-requires c κs = search needs
 
--- src/job.rt:462:30
 enum-told-5 : tie.Need-enum-told-5
 enum-told-5 c = search needs
 
--- src/job.rt:462:30
 on-tick-requires-2 : tie.Need-on-tick-requires-2
 on-tick-requires-2 c κs = search needs
 
--- src/job.rt:463:27
 enum-told-6 : tie.Need-enum-told-6
 enum-told-6 c = search needs
 
--- src/job.rt:463:27
 on-abort-requires : tie.Need-on-abort-requires
 on-abort-requires c κs = search needs
 
--- src/job.rt:452:1
 returns : tie.Need-returns
 returns c = simp (c .before .enum-told .given .1, c .goes-on .ensures)
 
--- src/job.rt:452:1
 returns-2 : tie.Need-returns-2
 returns-2 c = simp (c .before .enum-told2 .given .1, c .goes-on2 .ensures)
 
--- src/job.rt:452:1
 returns-3 : tie.Need-returns-3
 returns-3 c = simp (c .before .enum-told3 .given .1, c .goes-on3 .ensures)
 
--- src/job.rt:452:1
 returns-4 : tie.Need-returns-4
 returns-4 c = simp (c .before .before .event .given .1, c .on-single .ensures)
 
--- src/job.rt:452:1
 returns-5 : tie.Need-returns-5
 returns-5 c = simp (c .before .before .event2 .given .1, c .on-end .ensures)
 
--- src/job.rt:452:1
 returns-6 : tie.Need-returns-6
 returns-6 c = simp (c .before .enum-told4 .given .1, c .on-tick .ensures)
 
--- src/job.rt:452:1
 returns-7 : tie.Need-returns-7
 returns-7 c = simp (c .before .enum-told5 .given .1, c .on-tick2 .ensures)
 
--- src/job.rt:452:1
 returns-8 : tie.Need-returns-8
 returns-8 c = simp (c .before .enum-told6 .given .1, c .on-abort .ensures)
 

@@ -1,71 +1,51 @@
-use borrow.Author.Tests.{eq-eqb, ne-eqb, lt-ltb, le-ltb, le-leb, lt-leb}
+-- `link::job::on_tick` meets its contract.
+-- Assumes nothing.
 use borrow.Author.Needs.{needs}
 use Rattle.link.proofs.job.on_tick.Statement.{statement}
 use Rattle.link.proofs.job.on_tick.Tie as tie
-use Rattle.link.proofs.job.on_tick.Reads as reads
-use Rattle.link.proofs.job.on_tick.Lts as lts
-use Rattle.link.proofs.job.awaited.Reads as awaited-reads
-use Rattle.link.proofs.job.backed.Reads as backed-reads
-use Rattle.link.proofs.job.goes_on.Reads as goes-on-reads
-use Rattle.link.proofs.job.waited.Reads as waited-reads
 
--- src/job.rt:403:35
 enum-told : tie.Need-enum-told
 enum-told c = search needs
 
--- src/job.rt:403:22
 goes-on-requires : tie.Need-goes-on-requires
 goes-on-requires c κs = search needs
 
--- src/job.rt:407:27
 enum-told-2 : tie.Need-enum-told-2
 enum-told-2 c = search needs
 
--- src/job.rt:407:14
 goes-on-requires-2 : tie.Need-goes-on-requires-2
 goes-on-requires-2 c κs = search needs
 
--- src/job.rt:409:13
 enum-known-job : tie.Need-enum-known-job
 enum-known-job c = search needs
 
--- src/job.rt:412:14
 waited-requires : tie.Need-waited-requires
 waited-requires c κs = search needs
 
--- src/job.rt:414:13
 enum-known-job-2 : tie.Need-enum-known-job-2
 enum-known-job-2 c = search needs
 
--- src/job.rt:417:14
 backed-requires : tie.Need-backed-requires
 backed-requires c κs = search needs
 
--- src/job.rt:419:13
 enum-known-job-3 : tie.Need-enum-known-job-3
 enum-known-job-3 c = search needs
 
--- src/job.rt:422:14
 awaited-requires : tie.Need-awaited-requires
 awaited-requires c κs = search needs
 
--- src/job.rt:399:1
 returns : tie.Need-returns
 returns c = simp (c .before .enum-told .given .1, c .goes-on .ensures)
 
--- src/job.rt:399:1
 returns-2 : tie.Need-returns-2
 returns-2 c = simp (c .before .enum-told2 .given .1, c .goes-on2 .ensures)
 
--- src/job.rt:399:1
 returns-3 : tie.Need-returns-3
 returns-3 c = simp (c .before .before .job .given .1, c .waited .ensures)
 
--- src/job.rt:399:1
 returns-4 : tie.Need-returns-4
 returns-4 c = simp (c .before .before .job2 .given .1, c .backed .ensures)
 
--- src/job.rt:399:1
 returns-5 : tie.Need-returns-5
 returns-5 c = simp (c .before .before .job3 .given .1, c .awaited .ensures)
 

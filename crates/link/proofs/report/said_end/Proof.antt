@@ -1,69 +1,51 @@
-use borrow.Author.Tests.{eq-eqb, ne-eqb, lt-ltb, le-ltb, le-leb, lt-leb}
+-- `link::report::said_end` meets its contract.
+-- Assumes nothing.
 use borrow.Author.Needs.{needs}
 use Rattle.link.proofs.report.said_end.Statement.{statement}
 use Rattle.link.proofs.report.said_end.Tie as tie
-use Rattle.link.proofs.report.said_end.Reads as reads
-use Rattle.link.proofs.report.said_end.Lts as lts
-use Rattle.link.proofs.report.said_response.Reads as said-response-reads
-use Rattle.link.proofs.report.saying.Reads as saying-reads
 
--- src/report.rt:108:34
 enum-told : tie.Need-enum-told
 enum-told c = search needs
 
--- src/report.rt:108:27
 saying-requires : tie.Need-saying-requires
 saying-requires c κs = search needs
 
--- src/report.rt:109:31
 enum-told-2 : tie.Need-enum-told-2
 enum-told-2 c = search needs
 
--- src/report.rt:109:24
 saying-requires-2 : tie.Need-saying-requires-2
 saying-requires-2 c κs = search needs
 
--- src/report.rt:110:33
 enum-told-3 : tie.Need-enum-told-3
 enum-told-3 c = search needs
 
--- src/report.rt:110:26
 saying-requires-3 : tie.Need-saying-requires-3
 saying-requires-3 c κs = search needs
 
--- src/report.rt:111:24
 enum-known-end : tie.Need-enum-known-end
 enum-known-end c = search needs
 
--- src/report.rt:111:34
 saying-requires-4 : tie.Need-saying-requires-4
 saying-requires-4 c κs = search needs
 
--- src/report.rt:112:25
 enum-known-end-2 : tie.Need-enum-known-end-2
 enum-known-end-2 c = search needs
 
--- src/report.rt:112:44
 said-response-requires : tie.Need-said-response-requires
 said-response-requires c κs = search needs
 
--- src/report.rt:104:1
 returns : tie.Need-returns
 returns c = simp (c .before .enum-told .given .1, c .saying .ensures)
 
--- src/report.rt:104:1
 returns-2 : tie.Need-returns-2
 returns-2 c = simp (c .before .enum-told2 .given .1, c .saying2 .ensures)
 
--- src/report.rt:104:1
 returns-3 : tie.Need-returns-3
 returns-3 c = simp (c .before .enum-told3 .given .1, c .saying3 .ensures)
 
--- src/report.rt:104:1
 returns-4 : tie.Need-returns-4
 returns-4 c = simp (c .before .before .end .given .1, c .saying4 .ensures)
 
--- src/report.rt:104:1
 returns-5 : tie.Need-returns-5
 returns-5 c = simp (c .before .before .end2 .given .1, c .said-response .ensures)
 

@@ -1,69 +1,51 @@
-use borrow.Author.Tests.{eq-eqb, ne-eqb, lt-ltb, le-ltb, le-leb, lt-leb}
+-- `link::report::sums_end` meets its contract.
+-- Assumes nothing.
 use borrow.Author.Needs.{needs}
 use Rattle.link.proofs.report.sums_end.Statement.{statement}
 use Rattle.link.proofs.report.sums_end.Tie as tie
-use Rattle.link.proofs.report.sums_end.Reads as reads
-use Rattle.link.proofs.report.sums_end.Lts as lts
-use Rattle.link.proofs.report.one_more.Reads as one-more-reads
-use Rattle.link.proofs.report.run_of.Reads as run-of-reads
 
--- src/report.rt:155:39
 enum-told : tie.Need-enum-told
 enum-told c = search needs
 
--- src/report.rt:155:27
 run-of-requires : tie.Need-run-of-requires
 run-of-requires c κs = search needs
 
--- src/report.rt:156:24
 enum-told-2 : tie.Need-enum-told-2
 enum-told-2 c = search needs
 
--- src/report.rt:156:24
 one-more-requires : tie.Need-one-more-requires
 one-more-requires c κs = search needs
 
--- src/report.rt:157:36
 enum-told-3 : tie.Need-enum-told-3
 enum-told-3 c = search needs
 
--- src/report.rt:157:26
 run-of-requires-2 : tie.Need-run-of-requires-2
 run-of-requires-2 c κs = search needs
 
--- src/report.rt:158:47
 enum-told-4 : tie.Need-enum-told-4
 enum-told-4 c = search needs
 
--- src/report.rt:158:37
 run-of-requires-3 : tie.Need-run-of-requires-3
 run-of-requires-3 c κs = search needs
 
--- src/report.rt:162:24
 enum-told-5 : tie.Need-enum-told-5
 enum-told-5 c = search needs
 
--- src/report.rt:162:14
 run-of-requires-4 : tie.Need-run-of-requires-4
 run-of-requires-4 c κs = search needs
 
--- src/report.rt:151:1
 returns : tie.Need-returns
 returns c = simp (c .before .enum-told .given .1, c .run-of .ensures)
 
--- src/report.rt:151:1
 returns-2 : tie.Need-returns-2
 returns-2 c = simp (c .before .enum-told2 .given .1, c .one-more .ensures)
 
--- src/report.rt:151:1
 returns-3 : tie.Need-returns-3
 returns-3 c = simp (c .before .enum-told3 .given .1, c .run-of2 .ensures)
 
--- src/report.rt:151:1
 returns-4 : tie.Need-returns-4
 returns-4 c = simp (c .before .enum-told4 .given .1, c .run-of3 .ensures)
 
--- src/report.rt:151:1
 returns-5 : tie.Need-returns-5
 returns-5 c = simp (c .before .enum-told5 .given .1, c .run-of4 .ensures)
 

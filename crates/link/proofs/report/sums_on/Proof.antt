@@ -1,105 +1,78 @@
-use borrow.Author.Tests.{eq-eqb, ne-eqb, lt-ltb, le-ltb, le-leb, lt-leb}
+-- `link::report::sums_on` meets its contract.
+-- Assumes nothing.
 use borrow.Author.Needs.{needs}
 use Rattle.link.proofs.report.sums_on.Statement.{statement}
 use Rattle.link.proofs.report.sums_on.Tie as tie
-use Rattle.link.proofs.report.sums_on.Reads as reads
-use Rattle.link.proofs.report.sums_on.Lts as lts
-use Rattle.link.proofs.report.run_of.Reads as run-of-reads
-use Rattle.link.proofs.report.sums_end.Reads as sums-end-reads
 
--- src/report.rt:171:38
 enum-told : tie.Need-enum-told
 enum-told c = search needs
 
--- src/report.rt:171:26
 run-of-requires : tie.Need-run-of-requires
 run-of-requires c κs = search needs
 
--- src/report.rt:172:46
 enum-told-2 : tie.Need-enum-told-2
 enum-told-2 c = search needs
 
--- src/report.rt:172:34
 run-of-requires-2 : tie.Need-run-of-requires-2
 run-of-requires-2 c κs = search needs
 
--- src/report.rt:173:39
 enum-told-3 : tie.Need-enum-told-3
 enum-told-3 c = search needs
 
--- src/report.rt:173:27
 run-of-requires-3 : tie.Need-run-of-requires-3
 run-of-requires-3 c κs = search needs
 
--- src/report.rt:174:40
 enum-told-4 : tie.Need-enum-told-4
 enum-told-4 c = search needs
 
--- src/report.rt:174:28
 run-of-requires-4 : tie.Need-run-of-requires-4
 run-of-requires-4 c κs = search needs
 
--- src/report.rt:175:22
 enum-known-event : tie.Need-enum-known-event
 enum-known-event c = search needs
 
--- src/report.rt:175:30
 sums-end-requires : tie.Need-sums-end-requires
 sums-end-requires c κs = search needs
 
--- src/report.rt:176:43
 enum-told-5 : tie.Need-enum-told-5
 enum-told-5 c = search needs
 
--- src/report.rt:176:31
 run-of-requires-5 : tie.Need-run-of-requires-5
 run-of-requires-5 c κs = search needs
 
--- src/report.rt:177:42
 enum-told-6 : tie.Need-enum-told-6
 enum-told-6 c = search needs
 
--- src/report.rt:177:30
 run-of-requires-6 : tie.Need-run-of-requires-6
 run-of-requires-6 c κs = search needs
 
--- src/report.rt:178:39
 enum-told-7 : tie.Need-enum-told-7
 enum-told-7 c = search needs
 
--- src/report.rt:178:27
 run-of-requires-7 : tie.Need-run-of-requires-7
 run-of-requires-7 c κs = search needs
 
--- src/report.rt:167:1
 returns : tie.Need-returns
 returns c = simp (c .before .enum-told .given .1, c .run-of .ensures)
 
--- src/report.rt:167:1
 returns-2 : tie.Need-returns-2
 returns-2 c = simp (c .before .enum-told2 .given .1, c .run-of2 .ensures)
 
--- src/report.rt:167:1
 returns-3 : tie.Need-returns-3
 returns-3 c = simp (c .before .enum-told3 .given .1, c .run-of3 .ensures)
 
--- src/report.rt:167:1
 returns-4 : tie.Need-returns-4
 returns-4 c = simp (c .before .enum-told4 .given .1, c .run-of4 .ensures)
 
--- src/report.rt:167:1
 returns-5 : tie.Need-returns-5
 returns-5 c = simp (c .before .before .event .given .1, c .sums-end .ensures)
 
--- src/report.rt:167:1
 returns-6 : tie.Need-returns-6
 returns-6 c = simp (c .before .enum-told5 .given .1, c .run-of5 .ensures)
 
--- src/report.rt:167:1
 returns-7 : tie.Need-returns-7
 returns-7 c = simp (c .before .enum-told6 .given .1, c .run-of6 .ensures)
 
--- src/report.rt:167:1
 returns-8 : tie.Need-returns-8
 returns-8 c = simp (c .before .enum-told7 .given .1, c .run-of7 .ensures)
 

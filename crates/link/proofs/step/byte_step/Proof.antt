@@ -1,30 +1,27 @@
-use borrow.Author.Tests.{eq-eqb, ne-eqb, lt-ltb, le-ltb, le-leb, lt-leb}
+-- `link::step::byte_step` meets its contract.
+-- Assumes nothing.
 use Rattle.link.specs.Step.{byteOut}
 use borrow.Author.Needs.{needs}
 use Rattle.link.proofs.step.byte_step.Statement.{statement}
 use Rattle.link.proofs.step.byte_step.Tie as tie
-use Rattle.link.proofs.step.byte_step.Reads as reads
-use Rattle.link.proofs.step.byte_step.Lts as lts
-use Rattle.link.proofs.hearing.hear_byte.Reads as hear-byte-reads
-use Rattle.link.proofs.step.decide_on.Reads as decide-on-reads
-use Rattle.link.proofs.step.kept.Reads as kept-reads
 
--- src/step.rt:120:9
 hear-byte-requires : tie.Need-hear-byte-requires
 hear-byte-requires c κs = search needs
 
--- src/step.rt:122:9
-kept-requires : tie.Need-kept-requires
-kept-requires c κs = search needs
+slice-aggregate-keep : tie.Need-slice-aggregate-keep
+slice-aggregate-keep c = search needs
 
--- src/step.rt:123:9
+keep-requires : tie.Need-keep-requires
+keep-requires c κs = search needs
+
 decide-on-requires : tie.Need-decide-on-requires
 decide-on-requires c κs = search needs
 
--- src/step.rt:113:1
 returns : tie.Need-returns
 unfolding byteOut
-returns c = simp (c .before .before .hear-byte .ensures, c .before .kept .ensures, c .decide-on .ensures)
+returns c = simp (c .before .before .before .before .hear-byte .ensures, c .before .before .keep .ensures, c .decide-on .ensures)
 
 pub byte-step-spec : {M : Type 1} → statement M
-byte-step-spec = tie.close (tie.spec hear-byte-requires kept-requires decide-on-requires returns)
+byte-step-spec =
+    tie.close
+    (tie.spec hear-byte-requires slice-aggregate-keep keep-requires decide-on-requires returns)

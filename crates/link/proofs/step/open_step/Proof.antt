@@ -1,3 +1,5 @@
+-- `link::step::open_step` meets its contract.
+-- Assumes nothing.
 use denote.Ref.{now}
 use Rattle.frame.proofs.Theorems.{frame-length}
 use Rattle.link.specs.Step.{openOut}
@@ -6,32 +8,22 @@ use Rattle.link.proofs.Opened.{held}
 use borrow.Author.Needs.{needs}
 use Rattle.link.proofs.step.open_step.Statement.{statement}
 use Rattle.link.proofs.step.open_step.Tie as tie
-use Rattle.link.proofs.step.open_step.Reads as reads
-use Rattle.link.proofs.step.open_step.Lts as lts
-use Rattle.frame.proofs.build.Reads as build-reads
-use Rattle.link.proofs.step.opening.Reads as opening-reads
 
--- src/step.rt:169:17
 add-size : tie.Need-add-size
 add-size c = search needs
 
--- src/step.rt:169:16
 cast-size : tie.Need-cast-size
 cast-size c = search needs
 
--- src/step.rt:170:45
 slice-aggregate-build : tie.Need-slice-aggregate-build
 slice-aggregate-build c = search needs
 
--- src/step.rt:170:5
 build-requires : tie.Need-build-requires
 build-requires c κs = search needs
 
--- src/step.rt:171:9
 opening-requires : tie.Need-opening-requires
 opening-requires c κs = search needs
 
--- src/step.rt:162:1
 returns : tie.Need-returns
 unfolding openOut
 returns c =

@@ -1,27 +1,21 @@
-use mathlib.Core.Path.{_≡_, refl, sym, ap, _∙_}
+-- `link::state::Link::session` meets its contract.
+-- Assumes nothing.
+use mathlib.Core.Path.{sym, _∙_}
 use denote.Ref.{now}
 use borrow.Author.Tests.{lt-ltb, le-ltb}
 use lib.ListN.{length}
 use Rattle.frame.specs.Frame.{frameOf}
-use Rattle.link.specs.declared.job.Asking.the-variants.{Plain, Asks}
+use Rattle.link.specs.declared.job.Asking.the-variants.{Asks}
 use Rattle.link.specs.Step.{openOut}
-use Rattle.link.specs.Calls.{passes, sessionChecks}
+use Rattle.link.specs.Calls.{sessionChecks}
 use Rattle.link.proofs.Ways.{short-line, short-up, roomy, refuse, accept}
 use borrow.Author.Needs.{needs}
 use Rattle.link.proofs.state.Link.session.Statement.{statement}
 use Rattle.link.proofs.state.Link.session.Tie as tie
-use Rattle.link.proofs.state.Link.session.Reads as reads
-use Rattle.link.proofs.state.Link.session.Lts as lts
-use Rattle.link.proofs.calls.refused.Reads as refused-reads
-use Rattle.link.proofs.emit.emit.Reads as emit-reads
-use Rattle.link.proofs.job.is_open.Reads as is-open-reads
-use Rattle.link.proofs.step.open_step.Reads as open-step-reads
 
--- src/calls.rt:149:13
 refused-requires : tie.Need-refused-requires
 refused-requires c κs = search needs
 
--- src/calls.rt:149:13
 returns : tie.Need-returns
 returns c =
     let a = c .before .before .before .before .before .before .args in
@@ -30,11 +24,9 @@ returns c =
     let own = sessionChecks (a .self) (length (now (a .parameters))) in
     refuse own (openOut (a .self) (Asks (a .command)) (frameOf 0 (a .command) (now (a .parameters)))) (a .self) line up (short-line line up own (c .before .if1 .taken)) (c .refused .ensures)
 
--- src/calls.rt:152:13
 refused-requires-2 : tie.Need-refused-requires-2
 refused-requires-2 c κs = search needs
 
--- src/calls.rt:152:13
 returns-2 : tie.Need-returns-2
 returns-2 c =
     let a = c .before .before .before .before .before .before .before .args in
@@ -43,15 +35,12 @@ returns-2 c =
     let own = sessionChecks (a .self) (length (now (a .parameters))) in
     refuse own (openOut (a .self) (Asks (a .command)) (frameOf 0 (a .command) (now (a .parameters)))) (a .self) line up (short-up line up own (c .before .before .if1 .left) (c .before .if2 .taken)) (c .refused2 .ensures)
 
--- src/calls.rt:154:12
 is-open-requires : tie.Need-is-open-requires
 is-open-requires c κs = search needs
 
--- src/calls.rt:155:13
 refused-requires-3 : tie.Need-refused-requires-3
 refused-requires-3 c κs = search needs
 
--- src/calls.rt:155:13
 returns-3 : tie.Need-returns-3
 returns-3 c =
     let a = c .before .before .before .before .before .before .before .before .before .args in
@@ -60,11 +49,9 @@ returns-3 c =
     let own = sessionChecks (a .self) (length (now (a .parameters))) in
     refuse own (openOut (a .self) (Asks (a .command)) (frameOf 0 (a .command) (now (a .parameters)))) (a .self) line up (roomy line up own (c .before .before .before .before .if1 .left) (c .before .before .before .if2 .left) ∙ simp (sym (c .before .before .is-open .ensures) ∙ c .before .if3 .taken)) (c .refused3 .ensures)
 
--- src/calls.rt:158:13
 refused-requires-4 : tie.Need-refused-requires-4
 refused-requires-4 c κs = search needs
 
--- src/calls.rt:158:13
 returns-4 : tie.Need-returns-4
 returns-4 c =
     let a = c .before .before .before .before .before .before .before .before .before .before .args in
@@ -73,23 +60,18 @@ returns-4 c =
     let own = sessionChecks (a .self) (length (now (a .parameters))) in
     refuse own (openOut (a .self) (Asks (a .command)) (frameOf 0 (a .command) (now (a .parameters)))) (a .self) line up (roomy line up own (c .before .before .before .before .before .if1 .left) (c .before .before .before .before .if2 .left) ∙ simp (sym (c .before .before .before .is-open .ensures) ∙ c .before .before .if3 .left, lt-ltb _ _ (c .before .if4 .taken))) (c .refused4 .ensures)
 
--- src/calls.rt:160:13
 open-step-requires : tie.Need-open-step-requires
 open-step-requires c κs = search needs
 
--- src/calls.rt:167:9
 emit-requires : tie.Need-emit-requires
 emit-requires c κs = search needs
 
--- src/calls.rt:143:5
 same-length : tie.Need-same-length
 same-length c = search needs
 
--- src/calls.rt:143:5
 same-length-2 : tie.Need-same-length-2
 same-length-2 c = search needs
 
--- src/calls.rt:143:5
 returns-5 : tie.Need-returns-5
 returns-5 c =
     let a = c .before .before .before .before .before .before .before .before .before .before .before .before .before .before .before .before .before .args in

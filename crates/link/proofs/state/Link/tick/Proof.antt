@@ -1,23 +1,18 @@
-use mathlib.Core.Path.{_≡_, refl, sym, ap, _∙_}
+-- `link::state::Link::tick` meets its contract.
+-- Assumes nothing.
+use mathlib.Core.Path.{refl}
 use denote.Ref.{now}
 use Rattle.link.specs.Rules.{base}
 use Rattle.link.specs.Step.{tickOut}
 use Rattle.link.specs.Calls.{passes}
-use Rattle.link.proofs.Ways.{short-line, short-up, roomy, refuse, accept}
+use Rattle.link.proofs.Ways.{short-line, short-up, refuse, accept}
 use borrow.Author.Needs.{needs}
 use Rattle.link.proofs.state.Link.tick.Statement.{statement}
 use Rattle.link.proofs.state.Link.tick.Tie as tie
-use Rattle.link.proofs.state.Link.tick.Reads as reads
-use Rattle.link.proofs.state.Link.tick.Lts as lts
-use Rattle.link.proofs.calls.refused.Reads as refused-reads
-use Rattle.link.proofs.emit.emit.Reads as emit-reads
-use Rattle.link.proofs.step.tick_step.Reads as tick-step-reads
 
--- src/calls.rt:101:13
 refused-requires : tie.Need-refused-requires
 refused-requires c κs = search needs
 
--- src/calls.rt:101:13
 returns : tie.Need-returns
 returns c =
     let a = c .before .before .before .before .args in
@@ -25,11 +20,9 @@ returns c =
     let up = now (a .up) in
     refuse passes (tickOut base (a .self)) (a .self) line up (short-line line up passes (c .before .if1 .taken)) (c .refused .ensures)
 
--- src/calls.rt:104:13
 refused-requires-2 : tie.Need-refused-requires-2
 refused-requires-2 c κs = search needs
 
--- src/calls.rt:104:13
 returns-2 : tie.Need-returns-2
 returns-2 c =
     let a = c .before .before .before .before .before .args in
@@ -37,23 +30,18 @@ returns-2 c =
     let up = now (a .up) in
     refuse passes (tickOut base (a .self)) (a .self) line up (short-up line up passes (c .before .before .if1 .left) (c .before .if2 .taken)) (c .refused2 .ensures)
 
--- src/calls.rt:106:13
 tick-step-requires : tie.Need-tick-step-requires
 tick-step-requires c κs = search needs
 
--- src/calls.rt:107:9
 emit-requires : tie.Need-emit-requires
 emit-requires c κs = search needs
 
--- src/calls.rt:97:5
 same-length : tie.Need-same-length
 same-length c = search needs
 
--- src/calls.rt:97:5
 same-length-2 : tie.Need-same-length-2
 same-length-2 c = search needs
 
--- src/calls.rt:97:5
 returns-3 : tie.Need-returns-3
 returns-3 c =
     let a = c .before .before .before .before .before .before .before .before .before .before .before .before .args in

@@ -1,0 +1,5 @@
+pub mod Response
+pub mod Mask
+pub mod Capabilities
+pub mod Nodes
+pub mod Timeouts

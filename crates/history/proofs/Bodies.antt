@@ -1,0 +1,46 @@
+-- A frame under reception in numbers, and the bytes that it stands for.
+-- Assumes nothing.
+use Prim.Native.Nat.{ℕ, suc, _-_}
+use mathlib.Core.Path.{_≡_, refl, ap, sym}
+use mathlib.Core.Bool.{Bool}
+use mathlib.Core.List.{List, [], _∷_, _++_}
+use native.Mathlib.Omega.{arith}
+use lib.Bits.{bitXor}
+use lib.Dec.{eqb}
+use lib.ListN.{length, getD, length-append}
+use borrow.Author.Tests.{ne-eqb}
+use Rattle.frame.specs.Pick.{pick}
+use Rattle.frame.specs.Bytes.{xorAll}
+use Rattle.frame.proofs.Folds.{fold-append}
+use Rattle.link.specs.Hearing.{begun, more}
+use Rattle.link.specs.declared.hearing.Partial.{Partial}
+
+-- the Length and these body bytes have come
+abbrev pub partialOf : ℕ → ℕ → List ℕ → Partial
+partialOf clock len bs =
+    record { clock = clock; size = len - 1; at = length bs; sum = xorAll 255 (len ∷ bs); kind = getD bs 0 0; command = getD bs 1 0 }
+
+pub begun-is : (clock len : ℕ) → begun clock len ≡ partialOf clock len []
+unfolding xorAll
+begun-is clock len = refl
+
+first-is : (bs : List ℕ) (b : ℕ) → pick (eqb (length bs) 0) b (getD bs 0 0) ≡ getD (bs ++ (b ∷ [])) 0 0
+first-is [] b = refl
+first-is (x ∷ bs) b = ap (λ (t : Bool). pick t b x) (ne-eqb (suc (length bs)) 0 (λ e. omega arith))
+
+second-is : (bs : List ℕ) (b : ℕ) → pick (eqb (length bs) 1) b (getD bs 1 0) ≡ getD (bs ++ (b ∷ [])) 1 0
+second-is [] b = refl
+second-is (x ∷ []) b = refl
+second-is (x ∷ y ∷ bs) b = ap (λ (t : Bool). pick t b y) (ne-eqb (suc (suc (length bs))) 1 (λ e. omega arith))
+
+sum-is : (a : ℕ) (bs : List ℕ) (b : ℕ) → bitXor (xorAll a bs) b ≡ xorAll a (bs ++ (b ∷ []))
+unfolding xorAll
+sum-is a bs b = sym (fold-append a bs (b ∷ []))
+
+same : (clock size : ℕ) (at at′ sum sum′ kind kind′ command command′ : ℕ) → at ≡ at′ → sum ≡ sum′ → kind ≡ kind′ → command ≡ command′
+    → _≡_ {A = Partial} (record { clock = clock; size = size; at = at; sum = sum; kind = kind; command = command }) (record { clock = clock; size = size; at = at′; sum = sum′; kind = kind′; command = command′ })
+same clock size at at′ sum sum′ kind kind′ command command′ p q r s = λ i. record { clock = clock; size = size; at = p i; sum = q i; kind = r i; command = s i }
+
+pub more-is : (clock len : ℕ) (bs : List ℕ) (b : ℕ) → more (partialOf clock len bs) b ≡ partialOf clock len (bs ++ (b ∷ []))
+more-is clock len bs b =
+    same clock (len - 1) _ _ _ _ _ _ _ _ (sym (length-append bs (b ∷ []))) (sum-is 255 (len ∷ bs) b) (first-is bs b) (second-is bs b)

@@ -1,0 +1,104 @@
+-- Demand 3 over all histories, for any rules that fit, and for document 01's.
+-- Assumes nothing.
+use Prim.Native.Nat.{ℕ, _+_, _≤_}
+use mathlib.Core.Path.{refl, subst}
+use mathlib.Core.List.{List, [], _∷_, _++_}
+use native.Mathlib.Omega.{arith}
+use lib.ListN.{length, length-append}
+use lib.Seq.{take-append-seam}
+use Rattle.frame.specs.Bytes.{over}
+use Rattle.frame.specs.Frame.{frameOf, counted, checksum}
+use Rattle.link.specs.Rules.{Rules, base, backOffs}
+use Rattle.link.specs.Hearing.{isHunting}
+use Rattle.link.specs.Job.{start}
+use Rattle.link.specs.Report.{said, sums}
+use Rattle.link.specs.Step.{Out, openOut}
+use Rattle.link.specs.Calls.{roomChecks}
+use Rattle.link.specs.declared.hearing.Hearing.{Hearing}
+use Rattle.link.specs.declared.hearing.Hearing.the-variants.{Hunting, Head, Body}
+use Rattle.link.specs.declared.job.Asking.{Asking}
+use Rattle.link.specs.declared.job.Asking.the-variants.{Plain, Asks}
+use Rattle.link.specs.declared.report.Reception.the-variants as reception
+use Rattle.link.specs.declared.report.Reply.the-variants as reply
+use Rattle.link.specs.declared.report.Reset.the-variants as reset
+use Rattle.link.specs.declared.state.Link.{Link}
+use Rattle.history.specs.Calls.{send, session, Call, checksOf}
+use Rattle.history.specs.History.{after}
+use Rattle.history.specs.Watch.{verdictOf, watch, watched}
+use Rattle.history.specs.Demand3.{Kept, Demand3, EverySend, EverySession, sendBound, sessionBound}
+use Rattle.history.proofs.Mix.{IsFrame}
+use Rattle.history.proofs.Reception.{room, InTime}
+use Rattle.history.proofs.Job.{Fits, tail, extra, start-ok}
+use Rattle.history.proofs.Links.{Outcome, lifted}
+use Rattle.history.proofs.Histories.{accepted-is, in-time}
+use Rattle.history.proofs.Watching.{onward-ok, watch-ok, kept, watched-over, watched-there}
+use Rattle.history.proofs.Once.{once-from}
+
+-- the bound, of the rules: a frame's time, a wait, and what comes after copy 1 is lost
+abbrev pub bound : Rules → (ℕ → ℕ) → Asking → ℕ → ℕ
+bound R g a size = 1501 + (R .wait size + tail (R .wait size) g 1 + extra a)
+
+pub frame-is : (kind command : ℕ) (ps : List ℕ) → IsFrame (frameOf kind command ps)
+unfolding frameOf
+frame-is kind command ps =
+    let z : ℕ = checksum (counted kind command ps) in
+    record { len = length ps + 3; rest = kind ∷ command ∷ (ps ++ (z ∷ [])); is = refl; fits = omega (arith, length-append ps (z ∷ [])) }
+
+room-most : (h : Hearing) → room h ≤ 1501
+room-most Hunting = omega arith
+room-most (Head c) = omega arith
+room-most (Body p) = omega arith
+
+module _ (R : Rules) (g : ℕ → ℕ) (fit : Fits R g) where
+  -- an accepted send or session holds its frame, and has so many ticks at most
+  pub open-gave : (l : Link) (a : Asking) (f : List ℕ) → InTime (l .core .hearing)
+      → Outcome R g f a (bound R g a (length f)) 0 0 (verdictOf a (openOut l a f)) (openOut l a f)
+  unfolding openOut
+  open-gave l a f i =
+      let h = l .core .hearing in
+      lifted R g fit f a (l .body) (over f (l .frame)) h (length f) (said reception.Nothing reply.Silent 0) (sums (l .core .bad) reset.Nothing)
+      (start (isHunting h) a 0) (bound R g a (length f)) 0 0 i (take-append-seam f _)
+      (start-ok R g fit (length f) (isHunting h) h (bound R g a (length f)) 0 0 a i (omega arith) (omega (arith, room-most h)))
+
+  opened : (l : Link) (a : Asking) (f : List ℕ) → InTime (l .core .hearing) → IsFrame f → (k : List Call)
+      → Demand3 R a f (bound R g a (length f)) (openOut l a f) k
+  opened l a f i w k =
+      let o = openOut l a f in
+      let c = open-gave l a f i in
+      let q : Kept f (bound R g a (length f)) (watched R a o k) =
+      kept f (bound R g a (length f)) (watched R a o k) w
+      (onward-ok R g fit f a (verdictOf a o) (bound R g a (length f)) 0 0 o (watch R a (o .link) k) c (watch-ok R g fit f a k (o .link))) in
+      record {
+        once = once-from R g fit f a k (bound R g a (length f)) 0 0 o c;
+        kept = q;
+        comes = watched-over R a f (bound R g a (length f)) o k q;
+        restarted = watched-there R a o k;
+      }
+
+  -- Take any history h, any send accepted after it, and any calls k after that.
+  pub send-demand3 : EverySend R (bound R g Plain)
+  send-demand3 h k line up kind command ps o e =
+      let f = frameOf kind command ps in
+      let l = after R h in
+      subst (λ (z : Out). Demand3 R Plain f (bound R g Plain (length f)) z k)
+      ((accepted-is (roomChecks line up (checksOf l (send kind command ps))) (openOut l Plain f) o e) .gave)
+      (opened l Plain f (in-time R h) (frame-is kind command ps) k)
+
+  -- The same of a session; the bound is the same for every Command.
+  pub session-demand3 : EverySession R (bound R g (Asks 0))
+  session-demand3 h k line up command ps o e =
+      let f = frameOf 0 command ps in
+      let l = after R h in
+      subst (λ (z : Out). Demand3 R (Asks command) f (bound R g (Asks command) (length f)) z k)
+      ((accepted-is (roomChecks line up (checksOf l (session command ps))) (openOut l (Asks command) f) o e) .gave)
+      (opened l (Asks command) f (in-time R h) (frame-is 0 command ps) k)
+
+-- ---- document 01's rules
+pub base-fits : Fits base backOffs
+base-fits = record { wait = λ size. omega arith; late = λ n. omega arith; early = λ n. omega arith }
+
+pub base-send : EverySend base (λ size. sendBound)
+base-send = send-demand3 base backOffs base-fits
+
+pub base-session : EverySession base (λ size. sessionBound)
+base-session = session-demand3 base backOffs base-fits

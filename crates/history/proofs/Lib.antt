@@ -1,0 +1,15 @@
+pub mod Mix
+pub mod Reception
+pub mod Job
+pub mod Links
+pub mod Histories
+pub mod Watching
+pub mod Once
+pub mod Demand3
+pub mod Ranges
+pub mod Section11
+pub mod Bodies
+pub mod Runs
+pub mod Receives
+pub mod HandedUp
+pub mod Promise

@@ -1,0 +1,225 @@
+-- An open send or session on a link: what every call but a restart does to it.
+-- Assumes nothing.
+use Prim.Native.Nat.{ℕ, _+_, _≤_}
+use mathlib.Core.Path.{_≡_, refl, ap, sym, _∙_, subst}
+use mathlib.Core.Bool.{Bool, true, false, false≢true}
+use mathlib.Core.List.{List, [], _∷_, _++_, append-nil}
+use native.Mathlib.Omega.{arith}
+use lib.Dec.{eqb, ltb}
+use lib.ListN.{take}
+use Rattle.frame.specs.Pick.{pick}
+use Rattle.link.specs.Rules.{Rules, told}
+use Rattle.link.specs.Hearing.{heardByte, heardTick}
+use Rattle.link.specs.Job.{still, onSingle, awaits, copiesOf, act}
+use Rattle.link.specs.Report.{replyBytes, saidEnd, saidOn, sumsOn, newsReception, newsSending}
+use Rattle.link.specs.Step.{Out, Taken, out, decided, decideOn, byteBy, byteOut, tickOut, news, quiet, runFrom, runOut}
+use Rattle.link.specs.declared.hearing.Hearing.{Hearing}
+use Rattle.link.specs.declared.hearing.Single.{Single}
+use Rattle.link.specs.declared.hearing.Single.the-variants.{Ack, Nak, Can}
+use Rattle.link.specs.declared.hearing.End.{End}
+use Rattle.link.specs.declared.hearing.End.the-variants as end
+use Rattle.link.specs.declared.hearing.Event.{Event}
+use Rattle.link.specs.declared.hearing.Event.the-variants.{Inside, Kept, Skipped, Alone, Ended, TickHunting, TickInside, Aborted}
+use Rattle.link.specs.declared.hearing.Heard.{Heard}
+use Rattle.link.specs.declared.job.Act.{Act}
+use Rattle.link.specs.declared.job.Asking.{Asking}
+use Rattle.link.specs.declared.job.Asking.the-variants.{Plain, Asks}
+use Rattle.link.specs.declared.job.Job.{Job}
+use Rattle.link.specs.declared.job.Job.the-variants.{Idle, Due, Waiting, BackingOff, Awaiting}
+use Rattle.link.specs.declared.report.Reception.{Reception}
+use Rattle.link.specs.declared.report.Reception.the-variants as reception
+use Rattle.link.specs.declared.report.Reply.{Reply}
+use Rattle.link.specs.declared.report.Reply.the-variants as reply
+use Rattle.link.specs.declared.report.Said.{Said}
+use Rattle.link.specs.declared.report.Sums.{Sums}
+use Rattle.link.specs.declared.state.Link.{Link}
+use Rattle.history.specs.Watch.{Verdict, copiesIn, isFailure, Says, none, says, verdictIn, verdictOf}
+use Rattle.history.proofs.Mix.{Mix, end as finish, one, copy, mix-append}
+use Rattle.history.proofs.Reception.{pick-by, pick-ok, InTime, Steps, ticksAt, byte-steps, tick-steps}
+use Rattle.history.proofs.Job.{Fits, Good, left, ones, Claim, act-ok}
+
+-- ---- a byte whose report is no more than "nothing" or "skipped" changes the job in nothing and puts nothing out
+single-news : (R : Rules) (s : Single) (j : Job) → newsSending ((onSingle R s j) .sending) ≡ true
+single-news R s Idle = refl
+single-news R s (Due a n) = refl
+single-news R s (BackingOff a n b) = refl
+single-news R s (Awaiting c n e) = refl
+single-news R Ack (Waiting Plain n e) = refl
+single-news R Ack (Waiting (Asks c) n e) = refl
+single-news R Nak (Waiting a n e) =
+    pick-ok (λ (x : Act). newsSending (x .sending) ≡ true) (ltb n 4) _ _ (pick-ok (λ (x : Act). newsSending (x .sending) ≡ true) (eqb (R .back told n) 0) _ _ refl refl) refl
+single-news R Can (Waiting a n e) =
+    pick-ok (λ (x : Act). newsSending (x .sending) ≡ true) (ltb n 4) _ _ (pick-ok (λ (x : Act). newsSending (x .sending) ≡ true) (eqb (R .back told n) 0) _ _ refl refl) refl
+
+end-news : (e : End) (j : Job) → newsReception ((saidEnd e j) .reception) ≡ true
+end-news end.BadLength j = refl
+end-news end.BadSum j = refl
+end-news end.Reserved j = refl
+end-news (end.Request size) j = refl
+end-news (end.Response size command) j = pick-ok (λ (x : Reception). newsReception x ≡ true) (awaits command j) _ _ refl refl
+
+pub record Calm (R : Rules) (size : ℕ) (e : Event) (j : Job) : Type 0 where
+  pub job : act R size e j ≡ still j
+  pub silent : (saidOn e j) .reply ≡ reply.Silent
+
+calm : (R : Rules) (size : ℕ) (e : Event) (j : Job) → ticksAt e ≡ 0 → newsReception ((saidOn e j) .reception) ≡ false → newsSending ((act R size e j) .sending) ≡ false → Calm R size e j
+calm R size Inside j t p q = record { job = refl; silent = refl }
+calm R size (Kept at) j t p q = record { job = refl; silent = refl }
+calm R size Skipped j t p q = record { job = refl; silent = refl }
+calm R size (Alone s) j t p q = absurd (false≢true (sym q ∙ single-news R s j))
+calm R size (Ended e) j t p q = absurd (false≢true (sym p ∙ end-news e j))
+calm R size TickHunting j t p q = absurd (omega arith)
+calm R size TickInside j t p q = absurd (omega arith)
+calm R size Aborted j t p q = absurd (omega arith)
+
+neither : (x y : Bool) → pick x true y ≡ false → (x ≡ false) × (y ≡ false)
+neither true y e = absurd (false≢true (sym e))
+neither false y e = (refl, e)
+
+pub calm-byte : (R : Rules) (l : Link) (b : ℕ) (r : Heard) → ticksAt (r .event) ≡ 0 → news (byteBy R l b r) ≡ false → Calm R (l .core .size) (r .event) (l .core .job)
+calm-byte R l b r t e =
+    let p = neither _ _ e in
+    calm R (l .core .size) (r .event) (l .core .job) t (p .0) ((neither _ _ (p .1)) .0)
+
+-- ---- a link with an open send or session of the frame f
+pub record Sends (R : Rules) (f : List ℕ) (a : Asking) (l : Link) : Type 0 where
+  pub time : InTime (l .core .hearing)
+  pub good : Good R (l .core .size) (l .core .hearing) a (l .core .job)
+  pub held : take (l .core .size) (l .frame) ≡ f
+
+abbrev pub leftOn : Rules → (ℕ → ℕ) → Link → ℕ
+leftOn R g l = left R g (l .core .size) (l .core .hearing) (l .core .job)
+
+-- a call in t ticks with no verdict: L ticks were left and n copies had gone out before it
+pub record Goes (R : Rules) (g : ℕ → ℕ) (f : List ℕ) (a : Asking) (L n t : ℕ) (o : Out) : Type 0 where
+  pub sends : Sends R f a (o .link)
+  pub less : leftOn R g (o .link) + t ≤ L
+  pub more : ℕ
+  pub mix : Mix f more (o .line)
+  pub count : copiesOf (o .link .core .job) ≡ n + more
+
+-- and with a verdict
+pub record Ends (f : List ℕ) (L n t : ℕ) (v : Verdict) (line : List ℕ) : Type 0 where
+  pub soon : t ≤ L
+  pub more : ℕ
+  pub mix : Mix f more line
+  pub count : copiesIn v ≡ n + more
+  pub few : copiesIn v ≤ 4
+  pub four : isFailure v ≡ true → copiesIn v ≡ 4
+
+abbrev pub Outcome : Rules → (ℕ → ℕ) → List ℕ → Asking → ℕ → ℕ → ℕ → Says → Out → Type 0
+Outcome R g f a L n t none o = Goes R g f a L n t o
+Outcome R g f a L n t (says v) o = Ends f L n t v (o .line) × (o .link .core .job ≡ Idle)
+
+reply-mix : (f : List ℕ) (r : Reply) → Mix f 0 (replyBytes r)
+reply-mix f reply.Silent = finish
+reply-mix f reply.Ack = one 6 refl finish
+reply-mix f reply.Nak = one 21 refl finish
+
+copy-mix : (f l : List ℕ) → l ≡ f → (c : Bool) → Mix f (ones c) (pick c l [])
+copy-mix f l e true = subst (λ (z : List ℕ). Mix f 1 z) (append-nil f ∙ sym e) (copy finish)
+copy-mix f l e false = finish
+
+module _ (R : Rules) (g : ℕ → ℕ) (fit : Fits R g) (f : List ℕ) (a : Asking) where
+  -- what the job's act comes to on the line, for either Says
+  lift : (s : Says) (body frame : List ℕ) (h : Hearing) (size : ℕ) (q : Said) (z : Sums) (x : Act) (L n t : ℕ) → InTime h → take size frame ≡ f
+      → Claim R g size h L n t s a (x .job) (x .copy) → Outcome R g f a L n t s (out body frame (decided h size q z x))
+  lift none body frame h size q z x L n t i e c =
+      record {
+        sends = record { time = i; good = c .good; held = e };
+        less = c .less;
+        more = 0 + ones (x .copy);
+        mix = mix-append (reply-mix f (q .reply)) (copy-mix f (take size frame) e (x .copy));
+        count = omega (arith, c .count);
+      }
+  lift (says v) body frame h size q z x L n t i e c = (
+    record {
+      soon = c .soon;
+      more = 0 + ones (x .copy);
+      mix = mix-append (reply-mix f (q .reply)) (copy-mix f (take size frame) e (x .copy));
+      count = omega (arith, c .count);
+      few = c .few;
+      four = c .four;
+    },
+    c .idle,
+  )
+
+  pub lifted : (body frame : List ℕ) (h : Hearing) (size : ℕ) (q : Said) (z : Sums) (x : Act) (L n t : ℕ) → InTime h → take size frame ≡ f
+      → Claim R g size h L n t (verdictIn a (x .sending) (x .session)) a (x .job) (x .copy)
+      → Outcome R g f a L n t (verdictIn a (x .sending) (x .session)) (out body frame (decided h size q z x))
+  lifted body frame h size q z x L n t i e c = lift (verdictIn a (x .sending) (x .session)) body frame h size q z x L n t i e c
+
+  -- o is what a call of t ticks gave, with so many ticks left and so many copies before it
+  abbrev pub Gave : ℕ → ℕ → ℕ → Out → Type 0
+  Gave L n t o = Outcome R g f a L n t (verdictOf a o) o
+
+  on-heard : (t : ℕ) (l : Link) (body : List ℕ) (r : Heard) → Steps t (l .core .hearing) r → Sends R f a l
+      → Gave (leftOn R g l) (copiesOf (l .core .job)) t (out body (l .frame) (decideOn R (l .core) r))
+  on-heard t l body r k d =
+      let x = act R (l .core .size) (r .event) (l .core .job) in
+      lifted body (l .frame) (r .hearing) (l .core .size) (saidOn (r .event) (l .core .job)) (sumsOn (r .event) (l .core .bad)) x _ _ t (k .ok) (d .held)
+      (subst
+      (λ (u : ℕ). Claim R g (l .core .size) (r .hearing) (leftOn R g l) (copiesOf (l .core .job)) u (verdictIn a (x .sending) (x .session)) a (x .job) (x .copy))
+      (k .time) (act-ok R g fit (l .core .size) (r .event) (l .core .hearing) (r .hearing) (k .tells) (d .good)))
+
+  pub byte-gave : (l : Link) (b : ℕ) → Sends R f a l → Gave (leftOn R g l) (copiesOf (l .core .job)) 0 (byteOut R l b)
+  unfolding byteOut
+  byte-gave l b d = on-heard 0 l _ (heardByte b (l .core .hearing)) (byte-steps b (l .core .hearing) (d .time)) d
+
+  pub tick-gave : (l : Link) → Sends R f a l → Gave (leftOn R g l) (copiesOf (l .core .job)) 1 (tickOut R l)
+  unfolding tickOut
+  tick-gave l d = on-heard 1 l (l .body) (heardTick (l .core .hearing)) (tick-steps (l .core .hearing) (d .time)) d
+
+  -- ---- a run of bytes: quiet bytes first, then its last
+  pub record Quiet (L n : ℕ) (o : Out) : Type 0 where
+    pub sends : Sends R f a (o .link)
+    pub less : leftOn R g (o .link) ≤ L
+    pub copies : copiesOf (o .link .core .job) ≡ n
+    pub line : o .line ≡ []
+    pub verdict : verdictOf a o ≡ none
+
+  quiet-gave : (L n : ℕ) (o : Out) → Quiet L n o → Gave L n 0 o
+  quiet-gave L n o q =
+      subst (λ (s : Says). Outcome R g f a L n 0 s o) (sym (q .verdict))
+      (record { sends = q .sends; less = omega (arith, q .less); more = 0; mix = subst (λ (z : List ℕ). Mix f 0 z) (sym (q .line)) finish; count = omega (arith, q .copies) })
+
+  weaker : (s : Says) (L L′ n n′ : ℕ) (o : Out) → L ≤ L′ → n ≡ n′ → Outcome R g f a L n 0 s o → Outcome R g f a L′ n′ 0 s o
+  weaker none L L′ n n′ o h e c = record { sends = c .sends; less = omega (arith, c .less); more = c .more; mix = c .mix; count = omega (arith, c .count) }
+  weaker (says v) L L′ n n′ o h e c =
+      (record { soon = omega (arith, c .0 .soon); more = c .0 .more; mix = c .0 .mix; count = omega (arith, c .0 .count); few = c .0 .few; four = c .0 .four }, c .1)
+
+  still-none : (j : Job) → verdictIn a ((still j) .sending) ((still j) .session) ≡ none
+  still-none j = by a
+    where
+      by : (b : Asking) → verdictIn b ((still j) .sending) ((still j) .session) ≡ none
+      by Plain = refl
+      by (Asks c) = refl
+
+  quiet-byte : (L n : ℕ) (l : Link) (b : ℕ) → Sends R f a l → leftOn R g l ≤ L → copiesOf (l .core .job) ≡ n → news (byteOut R l b) ≡ false → Quiet L n (byteOut R l b)
+  unfolding byteOut
+  quiet-byte L n l b d h e w =
+      let r = heardByte b (l .core .hearing) in
+      let k = byte-steps b (l .core .hearing) (d .time) in
+      let x = act R (l .core .size) (r .event) (l .core .job) in
+      let m = calm-byte R l b r (k .time) w in
+      let v : verdictIn a (x .sending) (x .session) ≡ none = ap (λ (y : Act). verdictIn a (y .sending) (y .session)) (m .job) ∙ still-none (l .core .job) in
+      let c : Goes R g f a (leftOn R g l) (copiesOf (l .core .job)) 0 (byteOut R l b) = subst (λ (s : Says). Outcome R g f a (leftOn R g l) (copiesOf (l .core .job)) 0 s (byteOut R l b)) v (byte-gave l b d) in
+      record {
+        sends = c .sends;
+        less = omega (arith, c .less);
+        copies = ap (λ (y : Act). copiesOf (y .job)) (m .job) ∙ e;
+        line = ap (λ (y : Reply). replyBytes y ++ pick (x .copy) (take (l .core .size) (l .frame)) []) (m .silent) ∙ ap (λ (y : Act). pick (y .copy) (take (l .core .size) (l .frame)) []) (m .job);
+        verdict = v;
+      }
+
+  from-gave : (bs : List ℕ) (k L n : ℕ) (o : Out) → Quiet L n o → Gave L n 0 ((runFrom R o k bs) .out)
+  unfolding runFrom
+  from-gave [] k L n o q = quiet-gave L n o q
+  from-gave (b ∷ bs) k L n o q =
+      pick-by (λ (z : Taken). Gave L n 0 (z .out)) (news (byteOut R (o .link) b)) _ _
+      (λ _. weaker (verdictOf a (byteOut R (o .link) b)) _ L _ n (byteOut R (o .link) b) (q .less) (q .copies) (byte-gave (o .link) b (q .sends)))
+      (λ w. from-gave bs (k + 1) L n (byteOut R (o .link) b) (quiet-byte L n (o .link) b (q .sends) (q .less) (q .copies) w))
+
+  pub run-gave : (l : Link) (bs : List ℕ) → Sends R f a l → Gave (leftOn R g l) (copiesOf (l .core .job)) 0 ((runOut R l bs) .out)
+  run-gave l bs d =
+      from-gave bs 0 _ _ (quiet l) (record { sends = d; less = omega arith; copies = refl; line = refl; verdict = still-none (l .core .job) })

@@ -1,0 +1,79 @@
+-- Bytes put out that are single bytes and copies of one frame; what the cutting finds in them.
+-- Assumes nothing.
+use Prim.Native.Nat.{ℕ, zero, suc, _+_, _≤_, _<_}
+use mathlib.Core.Path.{_≡_, refl, ap, ap₂, sym, _∙_, subst}
+use mathlib.Core.Bool.{Bool, false}
+use mathlib.Core.List.{List, [], _∷_, _++_, append-assoc}
+use native.Mathlib.Omega.{arith}
+use native.Mathlib.Nat.{zero-add, suc-add, not-suc-le-zero}
+use lib.Dec.{eqb}
+use lib.ListN.{length, take, drop, getD, replicate, length-append, take-append-drop, length-drop}
+use lib.Seq.{take-at, drop-at}
+use Rattle.frame.specs.Pick.{pick}
+use Rattle.history.specs.Cut.{Piece, single, whole, cutInto, cut, framesOf, joined}
+use Rattle.history.proofs.Reception.{pick-by}
+
+-- n copies of f among single bytes that are not 01
+pub data Mix (f : List ℕ) : ℕ → List ℕ → Type 0 where
+  end : Mix f 0 []
+  one : {n : ℕ} {l : List ℕ} (b : ℕ) → eqb b 1 ≡ false → Mix f n l → Mix f n (b ∷ l)
+  copy : {n : ℕ} {l : List ℕ} → Mix f n l → Mix f (suc n) (f ++ l)
+
+pub mix-append : {f : List ℕ} {m n : ℕ} {a b : List ℕ} → Mix f m a → Mix f n b → Mix f (m + n) (a ++ b)
+mix-append {f} {n = n} {b = b} end y = subst (λ (k : ℕ). Mix f k b) (sym (zero-add n)) y
+mix-append (one c h x) y = one c h (mix-append x y)
+mix-append {f} {n = n} {b = b} (copy {n = m} {l = l} x) y =
+    subst (λ (k : ℕ). Mix f k ((f ++ l) ++ b)) (sym (suc-add m n))
+    (subst (λ (z : List ℕ). Mix f (suc (m + n)) z) (sym (append-assoc f l b)) (copy (mix-append x y)))
+
+-- a whole frame: 01, Length, and Length bytes more
+pub record IsFrame (f : List ℕ) : Type 0 where
+  pub len : ℕ
+  pub rest : List ℕ
+  pub is : f ≡ 1 ∷ len ∷ rest
+  pub fits : length rest ≡ len
+
+nothing-left : (m : ℕ) → framesOf (cutInto m []) ≡ []
+nothing-left zero = refl
+nothing-left (suc m) = refl
+
+skip : (b : ℕ) (l : List ℕ) (m : ℕ) → eqb b 1 ≡ false → framesOf (cutInto (suc m) (b ∷ l)) ≡ framesOf (cutInto m l)
+skip b l m e =
+    ap
+    (λ (x : Bool). framesOf (pick x (whole (take (getD l 0 0 + 2) (b ∷ l)) ∷ cutInto m (drop (getD l 0 0 + 2) (b ∷ l))) (single b ∷ cutInto m l)))
+    e
+
+found′ : (k : ℕ) (r l : List ℕ) (m : ℕ) → length r ≡ k → framesOf (cutInto (suc m) ((1 ∷ k ∷ r) ++ l)) ≡ (1 ∷ k ∷ r) ∷ framesOf (cutInto m l)
+found′ k r l m h =
+    let e : suc (suc (length r)) ≡ k + 2 = omega arith in
+    ap₂ (λ (x : List ℕ) (y : List ℕ). x ∷ framesOf (cutInto m y)) (take-at (1 ∷ k ∷ r) l (k + 2) e) (drop-at (1 ∷ k ∷ r) l (k + 2) e)
+
+found : (f l : List ℕ) (m : ℕ) → IsFrame f → framesOf (cutInto (suc m) (f ++ l)) ≡ f ∷ framesOf (cutInto m l)
+found f l m w =
+    subst (λ (z : List ℕ). framesOf (cutInto (suc m) (z ++ l)) ≡ z ∷ framesOf (cutInto m l)) (sym (w .is)) (found′ (w .len) (w .rest) l m (w .fits))
+
+long : (f : List ℕ) → IsFrame f → 1 < length f
+long f w = rw (w .is) (omega arith)
+
+-- the frames found are the copies
+pub mix-frames : {f : List ℕ} {n : ℕ} {l : List ℕ} → IsFrame f → Mix f n l → (m : ℕ) → length l ≤ m → framesOf (cutInto m l) ≡ replicate n f
+mix-frames w end m h = nothing-left m
+mix-frames w (one b e x) zero h = absurd (not-suc-le-zero h)
+mix-frames w (one {l = l} b e x) (suc m) h = skip b l m e ∙ mix-frames w x m (omega arith)
+mix-frames {f} w (copy {l = l} x) zero h = absurd (omega (arith, long f w, length-append f l))
+mix-frames {f} w (copy {l = l} x) (suc m) h =
+    found f l m w ∙ ap (λ (z : List (List ℕ)). f ∷ z) (mix-frames w x m (omega (arith, long f w, length-append f l)))
+
+-- ---- the cutting leaves no byte out
+joined-by : (m : ℕ) (l : List ℕ) → length l ≤ m → joined (cutInto m l) ≡ l
+joined-by zero [] h = refl
+joined-by zero (b ∷ l) h = absurd (not-suc-le-zero h)
+joined-by (suc m) [] h = refl
+joined-by (suc m) (b ∷ l) h =
+    let n = getD l 0 0 + 2 in
+    pick-by (λ (ps : List Piece). joined ps ≡ b ∷ l) (eqb b 1) _ _
+    (λ _. ap (λ (z : List ℕ). take n (b ∷ l) ++ z) (joined-by m (drop n (b ∷ l)) (omega (arith, length-drop n (b ∷ l)))) ∙ take-append-drop n (b ∷ l))
+    (λ _. ap (λ (z : List ℕ). b ∷ z) (joined-by m l (omega arith)))
+
+pub cut-joined : (l : List ℕ) → joined (cut l) ≡ l
+cut-joined l = joined-by (length l) l (omega arith)

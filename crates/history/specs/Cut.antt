@@ -1,0 +1,37 @@
+-- Bytes put out, cut from the front into single bytes and whole frames. Nothing here knows of the link.
+-- Assumes nothing.
+use Prim.Native.Nat.{ℕ, zero, suc, _+_}
+use mathlib.Core.List.{List, [], _∷_, _++_}
+use lib.Dec.{eqb}
+use lib.ListN.{length, take, drop, getD}
+use Rattle.frame.specs.Pick.{pick}
+
+pub data Piece : Type 0 where
+  single : ℕ → Piece
+  whole : List ℕ → Piece
+
+-- A byte that is not 01 is single; 01 begins a frame of Length + 2 bytes. Here n is how many pieces at most.
+abbrev pub cutInto : ℕ → List ℕ → List Piece
+cutInto zero l = []
+cutInto (suc n) [] = []
+cutInto (suc n) (b ∷ l) =
+    pick (eqb b 1) (whole (take (getD l 0 0 + 2) (b ∷ l)) ∷ cutInto n (drop (getD l 0 0 + 2) (b ∷ l)))
+    (single b ∷ cutInto n l)
+
+abbrev pub cut : List ℕ → List Piece
+cut l = cutInto (length l) l
+
+abbrev pub framesOf : List Piece → List (List ℕ)
+framesOf [] = []
+framesOf (single b ∷ ps) = framesOf ps
+framesOf (whole f ∷ ps) = f ∷ framesOf ps
+
+-- the frames found
+abbrev pub frames : List ℕ → List (List ℕ)
+frames l = framesOf (cut l)
+
+-- the bytes of the pieces, one behind the other
+abbrev pub joined : List Piece → List ℕ
+joined [] = []
+joined (single b ∷ ps) = b ∷ joined ps
+joined (whole f ∷ ps) = f ++ joined ps

@@ -1,0 +1,86 @@
+-- Demand 3, of one accepted send or session: f is the frame that `build` gives, bound the number of ticks.
+-- Assumes nothing.
+use Prim.Native.Nat.{ℕ, _≤_, _<_}
+use mathlib.Core.Bool.{true}
+use mathlib.Core.Path.{_≡_}
+use mathlib.Core.List.{List}
+use lib.ListN.{length, replicate}
+use Rattle.frame.specs.Frame.{frameOf}
+use Rattle.link.specs.Rules.{Rules}
+use Rattle.link.specs.Step.{Out}
+use Rattle.link.specs.declared.job.Asking.{Asking}
+use Rattle.link.specs.declared.job.Asking.the-variants.{Plain, Asks}
+use Rattle.history.specs.Calls.{send, session, Call, took, perform}
+use Rattle.history.specs.History.{after, ticksIn, restartsIn}
+use Rattle.history.specs.Cut.{frames}
+use Rattle.history.specs.Watch.{Verdict, copiesIn, isFailure, Watch, going, gone, ended, watched, verdictsFrom}
+
+-- with no verdict yet, after so many accepted ticks and these bytes
+pub record Open (f : List ℕ) (bound ticks : ℕ) (line : List ℕ) : Type 0 where
+  -- a history of that many accepted ticks has the verdict
+  pub soon : ticks < bound
+  -- the frames found are all equal, byte for byte, to the frame that `build` gives
+  pub copies : frames line ≡ replicate (length (frames line)) f
+  -- at most four while it is open
+  pub few : length (frames line) ≤ 4
+
+-- with the verdict v, after so many accepted ticks and these bytes, the call of the verdict included
+pub record Ended (f : List ℕ) (bound : ℕ) (v : Verdict) (ticks : ℕ) (line : List ℕ) : Type 0 where
+  -- the verdict comes by this accepted tick
+  pub soon : ticks ≤ bound
+  -- the frames found are all equal, byte for byte, to the frame that `build` gives, and their number is the one in the verdict
+  pub copies : frames line ≡ replicate (copiesIn v) f
+  -- at most four
+  pub few : copiesIn v ≤ 4
+  -- a failure follows exactly four
+  pub four : isFailure v ≡ true → copiesIn v ≡ 4
+
+-- of a watch; nothing is said where an accepted restart came before the verdict
+abbrev pub Kept : List ℕ → ℕ → Watch → Type 0
+Kept f bound (going t l) = Open f bound t l
+Kept f bound gone = Unit {0}
+Kept f bound (ended v t l) = Ended f bound v t l
+
+-- it has its verdict, or was restarted before it
+abbrev pub IsOver : Watch → Type 0
+IsOver (going t l) = ⊥
+IsOver gone = Unit {0}
+IsOver (ended v t l) = Unit {0}
+
+abbrev pub NotGone : Watch → Type 0
+NotGone (going t l) = Unit {0}
+NotGone gone = ⊥
+NotGone (ended v t l) = Unit {0}
+
+-- all of demand 3: the accepting call gave o, and the calls h come after it
+pub record Demand3 (R : Rules) (a : Asking) (f : List ℕ) (bound : ℕ) (o : Out) (h : List Call) : Type 0 where
+  -- at most one verdict until another send or session is accepted
+  pub once : verdictsFrom R a o h ≤ 1
+  -- the ticks, the copies and their number
+  pub kept : Kept f bound (watched R a o h)
+  -- a history of that many accepted ticks has the verdict, where no accepted restart came before it
+  pub comes : bound ≤ ticksIn R (o .link) h → IsOver (watched R a o h)
+  -- and only an accepted restart ends the watch without one
+  pub restarted : restartsIn R (o .link) h ≡ 0 → NotGone (watched R a o h)
+
+-- of every send: take any history h, any send accepted after it, and any calls k after that; the bound goes by the frame's length
+abbrev pub EverySend : Rules → (ℕ → ℕ) → Type 0
+EverySend R bound =
+    (h k : List Call) (line up kind command : ℕ) (ps : List ℕ) (o : Out)
+    → perform R (after R h) (record { what = send kind command ps; line = line; up = up }) ≡ took o
+    → Demand3 R Plain (frameOf kind command ps) (bound (length (frameOf kind command ps))) o k
+
+-- and of every session
+abbrev pub EverySession : Rules → (ℕ → ℕ) → Type 0
+EverySession R bound =
+    (h k : List Call) (line up command : ℕ) (ps : List ℕ) (o : Out)
+    → perform R (after R h) (record { what = session command ps; line = line; up = up }) ≡ took o
+    → Demand3 R (Asks command) (frameOf 0 command ps) (bound (length (frameOf 0 command ps))) o k
+
+-- the verdict comes by the 15,701st accepted tick after acceptance
+abbrev pub sendBound : ℕ
+sendBound = 15701
+
+-- a session: by the 20,700th
+abbrev pub sessionBound : ℕ
+sessionBound = 20700

@@ -1,0 +1,183 @@
+-- A run of bytes is heard, and the job acts once behind it.
+--     hear-end, hear-more, hear-stop   `hearFrom` at what is left of the bytes
+--     byte-news                        a byte has news exactly if it is a single byte or ends a frame
+--     runs                             the run of bytes is what hearing alone reaches
+-- Assumes nothing.
+use mathlib.Core.Path.{_≡_, refl, sym, ap, _∙_}
+use mathlib.Core.Bool.{Bool, true, false}
+use mathlib.Core.List.{List, [], _∷_}
+use Prim.Native.Nat.{ℕ, _+_, _≤_, _<_}
+use native.Mathlib.Numerals.{add-one}
+use native.Mathlib.Omega.{arith}
+use lib.Dec.{ltb, eqb}
+use lib.ListN.{length, drop, getD, drop-of-length-le, length-set}
+use lib.Seq.{drop-cons}
+use Rattle.frame.specs.Pick.{pick}
+use Rattle.link.specs.declared.hearing.Event.{Event}
+use Rattle.link.specs.declared.hearing.Event.the-variants.{Inside, Kept, Skipped, Alone, Ended, TickHunting, TickInside, Aborted}
+use Rattle.link.specs.declared.hearing.End.{End}
+use Rattle.link.specs.declared.hearing.End.the-variants as end
+use Rattle.link.specs.declared.hearing.Heard.{Heard}
+use Rattle.link.specs.declared.hearing.Hearing.{Hearing}
+use Rattle.link.specs.declared.hearing.Hearing.the-variants.{Hunting, Head, Body}
+use Rattle.link.specs.declared.hearing.Single.{Single}
+use Rattle.link.specs.declared.hearing.Single.the-variants.{Ack, Nak, Can}
+use Rattle.link.specs.declared.job.Act.{Act}
+use Rattle.link.specs.declared.job.Asking.{Asking}
+use Rattle.link.specs.declared.job.Asking.the-variants.{Plain, Asks}
+use Rattle.link.specs.declared.job.Job.{Job}
+use Rattle.link.specs.declared.job.Job.the-variants.{Idle, Due, Waiting, BackingOff, Awaiting}
+use Rattle.link.specs.declared.report.Reception.{Reception}
+use Rattle.link.specs.declared.report.Reception.the-variants as reception
+use Rattle.link.specs.declared.state.Core.{Core}
+use Rattle.link.specs.declared.state.Link.{Link}
+use Rattle.link.specs.Rules.{Rules, told}
+use Rattle.link.specs.Hearing.{heard, heardByte, keep}
+use Rattle.link.specs.Hearing as spec
+use Rattle.link.specs.Job.{awaits, lose, onSingle}
+use Rattle.link.specs.Report.{newsReception, newsSending, saidEnd}
+use Rattle.link.specs.Step.{Out, Taken, out, decideOn, byteOut, news, quiet, runFrom, runOut}
+use Rattle.link.specs.Run.{Far, newsByte, behind, hearFrom, start}
+
+pick-ok : {A : Type 0} (P : A → Type 0) (x : Bool) (a b : A) → P a → P b → P (pick x a b)
+pick-ok P true a b p q = p
+pick-ok P false a b p q = q
+
+-- ---- hearing at what is left
+module _ (f : Far) (i : ℕ) (bytes : List ℕ) where
+  abbrev next : Heard
+  next = heardByte (getD bytes i 0) (f .heard .hearing)
+
+  pub hear-end : length bytes ≤ i → hearFrom f (drop i bytes) ≡ f
+  unfolding hearFrom
+  hear-end h = simp (drop-of-length-le bytes h)
+
+  pub hear-more : i < length bytes → newsByte (next .event) ≡ false
+      → hearFrom f (drop i bytes) ≡ hearFrom (behind next (f .body) (getD bytes i 0) (f .taken)) (drop (i + 1) bytes)
+  unfolding hearFrom
+  hear-more h e = rw (drop-cons bytes i 0 h) (simp (e, add-one))
+
+  pub hear-stop : i < length bytes → newsByte (next .event) ≡ true
+      → hearFrom f (drop i bytes) ≡ behind next (f .body) (getD bytes i 0) (f .taken)
+  unfolding hearFrom
+  hear-stop h e = rw (drop-cons bytes i 0 h) (simp e)
+
+pub keep-length : (e : Event) (b : ℕ) (body : List ℕ) → length (keep e b body) ≡ length body
+keep-length Inside b body = refl
+keep-length (Kept at) b body = length-set body at b
+keep-length Skipped b body = refl
+keep-length (Alone s) b body = refl
+keep-length (Ended e) b body = refl
+keep-length TickHunting b body = refl
+keep-length TickInside b body = refl
+keep-length Aborted b body = refl
+
+-- ---- which bytes have news
+lose-news : (R : Rules) (a : Asking) (n : ℕ) → newsSending (lose R told true a n .sending) ≡ true
+lose-news R a n =
+    pick-ok (λ (t : Act). newsSending (t .sending) ≡ true) (ltb n 4) _ _ (pick-ok (λ (t : Act). newsSending (t .sending) ≡ true) (eqb (R .back told n) 0) _ _ refl refl) refl
+
+single-news : (R : Rules) (s : Single) (j : Job) → newsSending (onSingle R s j .sending) ≡ true
+single-news R s Idle = refl
+single-news R s (Due a n) = refl
+single-news R s (BackingOff a n l) = refl
+single-news R s (Awaiting c n e) = refl
+single-news R Ack (Waiting Plain n e) = refl
+single-news R Ack (Waiting (Asks c) n e) = refl
+single-news R Nak (Waiting a n e) = lose-news R a n
+single-news R Can (Waiting a n e) = lose-news R a n
+
+end-news : (e : End) (j : Job) → newsReception (saidEnd e j .reception) ≡ true
+end-news end.BadLength j = refl
+end-news end.BadSum j = refl
+end-news end.Reserved j = refl
+end-news (end.Request size) j = refl
+end-news (end.Response size command) j =
+    pick-ok (λ (r : Reception). newsReception r ≡ true) (awaits command j) reception.Frame reception.StrayResponse refl refl
+
+module _ (R : Rules) (k : Core) (body frame : List ℕ) where
+  -- what a byte heard as h gives
+  abbrev Tells : Heard → Type 0
+  Tells h = news (out body frame (decideOn R k h)) ≡ newsByte (h .event)
+
+  alone : (x : Hearing) (s : Single) → Tells (heard x (Alone s))
+  alone x s = simp (single-news R s (k .job))
+
+  ended : (x : Hearing) (e : End) → Tells (heard x (Ended e))
+  ended x e = simp (end-news e (k .job))
+
+  pub byte-news : (b : ℕ) (h : Hearing) → Tells (heardByte b h)
+  byte-news b Hunting =
+      pick-ok Tells (eqb b 1) _ _ refl
+      (pick-ok Tells (eqb b 6) _ _ (alone Hunting Ack)
+      (pick-ok Tells (eqb b 21) _ _ (alone Hunting Nak) (pick-ok Tells (eqb b 24) _ _ (alone Hunting Can) refl)))
+  byte-news b (Head c) = pick-ok Tells (ltb b 3) _ _ (ended Hunting end.BadLength) refl
+  byte-news b (Body p) = pick-ok Tells (ltb (p .at) (p .size)) _ _ refl (ended Hunting (pick (eqb b (p .sum)) (spec.ended p) end.BadSum))
+
+-- ---- the run
+-- the link l, heard as far as f
+abbrev pub reached : Rules → Link → Far → Taken
+reached R l f = record { out = out (f .body) (l .frame) (decideOn R (l .core) (f .heard)); taken = f .taken }
+
+pub no : true ≡ false → ⊥
+no e = let z : _≡_ {A = ℕ} 0 1 = cc in omega arith
+
+-- a byte without news leaves the job and the run of bad sums as they are
+calm : (R : Rules) (l : Link) (h : Hearing) (e : Event) (body : List ℕ) (n : ℕ) → newsByte e ≡ false
+    → reached R l (record { heard = heard h e; body = body; taken = n }) .out .link
+    ≡ record { core = record { hearing = h; job = l .core .job; bad = l .core .bad; size = l .core .size }; body = body; frame = l .frame }
+calm R l h Inside body n q = refl
+calm R l h (Kept at) body n q = refl
+calm R l h Skipped body n q = refl
+calm R l h (Alone s) body n q = absurd (no q)
+calm R l h (Ended e) body n q = absurd (no q)
+calm R l h TickHunting body n q = absurd (no q)
+calm R l h TickInside body n q = absurd (no q)
+calm R l h Aborted body n q = absurd (no q)
+
+-- the next byte's step is that of hearing alone
+stepped : (R : Rules) (l : Link) (f : Far) (b : ℕ) → newsByte (f .heard .event) ≡ false
+    → byteOut R (reached R l f .out .link) b ≡ reached R l (behind (heardByte b (f .heard .hearing)) (f .body) b (f .taken)) .out
+unfolding byteOut
+stepped R l f b q = ap (λ (z : Link). byteOut R z b) (calm R l (f .heard .hearing) (f .heard .event) (f .body) (f .taken) q)
+
+module _ (R : Rules) (l : Link) (f : Far) (b : ℕ) (bs : List ℕ) (q : newsByte (f .heard .event) ≡ false) where
+  abbrev now-heard : Heard
+  now-heard = heardByte b (f .heard .hearing)
+
+  abbrev then : Far
+  then = behind now-heard (f .body) b (f .taken)
+
+  same-news : news (byteOut R (reached R l f .out .link) b) ≡ newsByte (now-heard .event)
+  same-news = ap news (stepped R l f b q) ∙ byte-news R (l .core) (then .body) (l .frame) b (f .heard .hearing)
+
+  run-stops : newsByte (now-heard .event) ≡ true → runFrom R (reached R l f .out) (f .taken) (b ∷ bs) ≡ reached R l then
+  unfolding runFrom
+  run-stops e = simp (same-news ∙ e) (ap (λ (o : Out). record { out = o; taken = f .taken + 1 }) (stepped R l f b q))
+
+  run-goes : newsByte (now-heard .event) ≡ false → runFrom R (reached R l f .out) (f .taken) (b ∷ bs) ≡ runFrom R (reached R l then .out) (f .taken + 1) bs
+  unfolding runFrom
+  run-goes e = simp (same-news ∙ e) (ap (λ (o : Out). runFrom R o (f .taken + 1) bs) (stepped R l f b q))
+
+  hear-stops : newsByte (now-heard .event) ≡ true → hearFrom f (b ∷ bs) ≡ then
+  unfolding hearFrom
+  hear-stops e = simp e
+
+  hear-goes : newsByte (now-heard .event) ≡ false → hearFrom f (b ∷ bs) ≡ hearFrom then bs
+  unfolding hearFrom
+  hear-goes e = simp e
+
+  run-one : (newsByte (now-heard .event) ≡ false → runFrom R (reached R l then .out) (f .taken + 1) bs ≡ reached R l (hearFrom then bs))
+      → (x : Bool) → newsByte (now-heard .event) ≡ x → runFrom R (reached R l f .out) (f .taken) (b ∷ bs) ≡ reached R l (hearFrom f (b ∷ bs))
+  run-one rest true e = run-stops e ∙ ap (λ (g : Far). reached R l g) (sym (hear-stops e))
+  run-one rest false e = run-goes e ∙ rest e ∙ ap (λ (g : Far). reached R l g) (sym (hear-goes e))
+
+runs-by : (R : Rules) (l : Link) (f : Far) (bs : List ℕ) → newsByte (f .heard .event) ≡ false
+    → runFrom R (reached R l f .out) (f .taken) bs ≡ reached R l (hearFrom f bs)
+unfolding runFrom hearFrom
+runs-by R l f [] q = refl
+runs-by R l f (b ∷ bs) q =
+    run-one R l f b bs q (λ e. runs-by R l (behind (heardByte b (f .heard .hearing)) (f .body) b (f .taken)) bs e) (newsByte (heardByte b (f .heard .hearing) .event)) refl
+
+pub runs : (R : Rules) (l : Link) (bs : List ℕ) → runOut R l bs ≡ reached R l (hearFrom (start (l .core .hearing) (l .body)) bs)
+runs R l bs = runs-by R l (start (l .core .hearing) (l .body)) bs refl

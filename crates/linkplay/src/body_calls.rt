@@ -1,0 +1,209 @@
+// The calls on command bodies, each with its line of output.
+use crate::frame_calls::put_built;
+use crate::frame_calls::put_no;
+use crate::frame_calls::put_refusal;
+use crate::lent::is_spilled;
+use crate::lent::restore;
+use crate::lent::within;
+use crate::printing::put;
+use crate::printing::put_byte;
+use crate::printing::put_end;
+use crate::printing::put_front;
+use crate::printing::put_named;
+use crate::printing::put_number;
+use crate::verb::BodyVerb;
+use bodies::Capabilities;
+use bodies::NodeList;
+use bodies::OldTimeouts;
+use bodies::Support;
+use units::Millis;
+
+// The values of a capabilities body.
+struct Abilities {
+    pub version: u8,
+    pub revision: u8,
+    pub manufacturer: u16,
+    pub product_type: u16,
+    pub product_id: u16,
+    pub supported: u16,
+}
+
+// The values of a node list, of which the nodes are the first `count` bytes of the lent list.
+struct Network {
+    pub version: u8,
+    pub capabilities: u8,
+    pub count: u8,
+    pub chip_type: u8,
+    pub chip_version: u8,
+}
+
+fn is_supported(body: &[u8], f: u8) -> bool {
+    match bodies::supports(body, f) {
+        Support::Refused(_) => false,
+        Support::Supported => true,
+        Support::Unsupported => false,
+    }
+}
+
+// Lists the functions that the body supports, in rising order, and answers how many there are.
+fn list_functions(body: &[u8], list: &mut [u8; 255]) -> usize {
+    let mut n = 0;
+    let mut f: u8 = 0;
+    while f < 255 {
+        f += 1;
+        if is_supported(body, f) {
+            list[n] = f;
+            n += 1;
+        }
+    }
+    n
+}
+
+fn put_list(list: &[u8; 255], n: usize, out: &mut [u8], waiting: usize) -> usize {
+    put_front(list, n, out, waiting)
+}
+
+// The functions that the body supports.
+fn put_functions(body: &[u8], out: &mut [u8], waiting: usize) -> usize {
+    let mut list = [0u8; 255];
+    let n = list_functions(body, &mut list);
+    let w = put(b" functions=", out, waiting);
+    put_list(&list, n, out, w)
+}
+
+// A number of two bytes, most significant first.
+fn put_word(word: u16, out: &mut [u8], waiting: usize) -> usize {
+    let w = put_byte((word / 256) as u8, out, waiting);
+    put_byte((word % 256) as u8, out, w)
+}
+
+// The eight fixed bytes, from the values that were read.
+fn put_fixed(found: Abilities, out: &mut [u8], waiting: usize) -> usize {
+    let a = put_byte(found.version, out, waiting);
+    let b = put_byte(found.revision, out, a);
+    let c = put_word(found.manufacturer, out, b);
+    let d = put_word(found.product_type, out, c);
+    put_word(found.product_id, out, d)
+}
+
+fn put_abilities(found: Abilities, body: &[u8], out: &mut [u8], waiting: usize) -> usize {
+    let a = put(b"capabilities ok fixed=", out, waiting);
+    let b = put_fixed(found, out, a);
+    let c = put(b" count=", out, b);
+    let d = put_number(found.supported as u64, out, c);
+    let e = put_functions(body, out, d);
+    put_end(false, out, e)
+}
+
+fn capabilities(body: &[u8], out: &mut [u8], waiting: usize) -> usize {
+    match bodies::read_capabilities(body) {
+        Capabilities::Refused(refusal) => put_no(b"capabilities", refusal, out, waiting),
+        Capabilities::Answer {
+            version,
+            revision,
+            manufacturer,
+            product_type,
+            product_id,
+            supported,
+        } => {
+            let found = Abilities {
+                version: version,
+                revision: revision,
+                manufacturer: manufacturer,
+                product_type: product_type,
+                product_id: product_id,
+                supported: supported,
+            };
+            put_abilities(found, body, out, waiting)
+        }
+    }
+}
+
+fn put_network(found: Network, list: &[u8], out: &mut [u8], waiting: usize) -> usize {
+    let a = put_named(b"nodes ok version=", found.version, out, waiting);
+    let b = put_named(b" capabilities=", found.capabilities, out, a);
+    let c = put(b" nodes=", out, b);
+    let d = put_front(list, found.count as usize, out, c);
+    let e = put_named(b" chip=", found.chip_type, out, d);
+    put_named(b" chipversion=", found.chip_version, out, e)
+}
+
+// The line of a node list that was read; the lent list is as before the call again.
+fn put_nodes(found: Network, list: &mut [u8], out: &mut [u8], waiting: usize) -> usize {
+    let n = found.count as usize;
+    let w = put_network(found, list, out, waiting);
+    let spilled = is_spilled(list, n);
+    restore(list, n);
+    put_end(spilled, out, w)
+}
+
+fn nodes(body: &[u8], list: &mut [u8], out: &mut [u8], waiting: usize) -> usize {
+    match bodies::read_nodes(body, list) {
+        NodeList::Refused(refusal) => put_refusal(b"nodes", refusal, list, out, waiting),
+        NodeList::Answer {
+            version,
+            capabilities,
+            count,
+            chip_type,
+            chip_version,
+        } => {
+            let found = Network {
+                version: version,
+                capabilities: capabilities,
+                count: count,
+                chip_type: chip_type,
+                chip_version: chip_version,
+            };
+            put_nodes(found, list, out, waiting)
+        }
+    }
+}
+
+fn timeouts(rxack: u32, rxbyte: u32, lent: &mut [u8], out: &mut [u8], waiting: usize) -> usize {
+    let answer = bodies::set_timeouts(Millis(rxack), Millis(rxbyte), lent);
+    put_built(b"timeouts", answer, lent, out, waiting)
+}
+
+fn old_timeouts(body: &[u8], out: &mut [u8], waiting: usize) -> usize {
+    match bodies::read_timeouts(body) {
+        OldTimeouts::Refused(refusal) => put_no(b"timeoutsres", refusal, out, waiting),
+        OldTimeouts::Were { rxack, rxbyte } => {
+            let a = put(b"timeoutsres ok ", out, waiting);
+            let b = put_number(rxack.0 as u64, out, a);
+            let c = put(b" ", out, b);
+            let d = put_number(rxbyte.0 as u64, out, c);
+            put_end(false, out, d)
+        }
+    }
+}
+
+// The call on a body that an order asks for. The lent buffer is lent as far as the call is to have it.
+pub fn on_body(
+    verb: BodyVerb,
+    numbers: [u32; 3],
+    bytes: &[u8],
+    lent: &mut [u8],
+    out: &mut [u8],
+    waiting: usize,
+) -> usize {
+    match verb {
+        BodyVerb::Capabilities => capabilities(bytes, out, waiting),
+        BodyVerb::Nodes => {
+            let n = within(232, lent);
+            nodes(bytes, &mut lent[0..n], out, waiting)
+        }
+        BodyVerb::NodesRoom => {
+            let n = within(numbers[0] as usize, lent);
+            nodes(bytes, &mut lent[0..n], out, waiting)
+        }
+        BodyVerb::Timeouts => {
+            let n = within(7, lent);
+            timeouts(numbers[0], numbers[1], &mut lent[0..n], out, waiting)
+        }
+        BodyVerb::TimeoutsRoom => {
+            let n = within(numbers[0] as usize, lent);
+            timeouts(numbers[1], numbers[2], &mut lent[0..n], out, waiting)
+        }
+        BodyVerb::TimeoutsRes => old_timeouts(bytes, out, waiting),
+    }
+}

@@ -1,0 +1,117 @@
+// The calls on frames, each with its line of output.
+use crate::lent::is_spilled;
+use crate::lent::restore;
+use crate::lent::within;
+use crate::printing::put;
+use crate::printing::put_end;
+use crate::printing::put_front;
+use crate::printing::put_named;
+use crate::printing::put_refused;
+use crate::script::behind;
+use crate::script::spelt_at;
+use crate::verb::FrameVerb;
+use frame::Built;
+use frame::Reading;
+use frame::Refusal;
+
+// The line of a call without a lent buffer that was refused.
+pub fn put_no(name: &[u8], refusal: Refusal, out: &mut [u8], waiting: usize) -> usize {
+    let a = put(name, out, waiting);
+    let b = put_refused(refusal, out, a);
+    put_end(false, out, b)
+}
+
+// The line of a call that was refused; the lent buffer is as before it again.
+pub fn put_refusal(
+    name: &[u8],
+    refusal: Refusal,
+    lent: &mut [u8],
+    out: &mut [u8],
+    waiting: usize,
+) -> usize {
+    let spilled = is_spilled(lent, 0);
+    restore(lent, 0);
+    let a = put(name, out, waiting);
+    let b = put_refused(refusal, out, a);
+    put_end(spilled, out, b)
+}
+
+// The line of a call that wrote a frame of n bytes; the lent buffer is as before it again.
+fn put_written(name: &[u8], n: usize, lent: &mut [u8], out: &mut [u8], waiting: usize) -> usize {
+    let a = put(name, out, waiting);
+    let b = put(b" ok ", out, a);
+    let c = put_front(lent, n, out, b);
+    let spilled = is_spilled(lent, n);
+    restore(lent, n);
+    put_end(spilled, out, c)
+}
+
+// The line of a call that writes a frame.
+pub fn put_built(
+    name: &[u8],
+    answer: Built,
+    lent: &mut [u8],
+    out: &mut [u8],
+    waiting: usize,
+) -> usize {
+    match answer {
+        Built::Refused(refusal) => put_refusal(name, refusal, lent, out, waiting),
+        Built::Frame(n) => put_written(name, n as usize, lent, out, waiting),
+    }
+}
+
+fn build(bytes: &[u8], lent: &mut [u8], out: &mut [u8], waiting: usize) -> usize {
+    let kind = spelt_at(bytes, 0);
+    let command = spelt_at(bytes, 1);
+    let answer = frame::build(kind, command, behind(bytes, 2), lent);
+    put_built(b"build", answer, lent, out, waiting)
+}
+
+// The parts of a frame that was read: its parameters are `count` bytes from the fifth on.
+fn put_frame(
+    kind: u8,
+    command: u8,
+    parameters: &[u8],
+    count: u8,
+    out: &mut [u8],
+    waiting: usize,
+) -> usize {
+    let a = put_named(b"read ok type=", kind, out, waiting);
+    let b = put_named(b" command=", command, out, a);
+    let c = put(b" parameters=", out, b);
+    let d = put_front(parameters, count as usize, out, c);
+    put_end(false, out, d)
+}
+
+fn read(bytes: &[u8], out: &mut [u8], waiting: usize) -> usize {
+    match frame::read(bytes) {
+        Reading::Refused(refusal) => put_no(b"read", refusal, out, waiting),
+        Reading::Parts {
+            kind,
+            command,
+            count,
+        } => put_frame(kind, command, behind(bytes, 4), count, out, waiting),
+    }
+}
+
+// The call on a frame that an order asks for. The lent buffer is lent as far as the call is to have it.
+pub fn on_frame(
+    verb: FrameVerb,
+    size: usize,
+    bytes: &[u8],
+    lent: &mut [u8],
+    out: &mut [u8],
+    waiting: usize,
+) -> usize {
+    match verb {
+        FrameVerb::Build => {
+            let n = within(257, lent);
+            build(bytes, &mut lent[0..n], out, waiting)
+        }
+        FrameVerb::BuildRoom => {
+            let n = within(size, lent);
+            build(bytes, &mut lent[0..n], out, waiting)
+        }
+        FrameVerb::Read => read(bytes, out, waiting),
+    }
+}

@@ -1,0 +1,215 @@
+// The play: the script is read, cut into lines, and each line is carried out.
+use crate::body_calls::on_body;
+use crate::frame_calls::on_frame;
+use crate::lent::fill;
+use crate::lent::within;
+use crate::link_calls::Player;
+use crate::link_calls::on_link;
+use crate::printing::flush;
+use crate::printing::put;
+use crate::script::Order;
+use crate::script::order_of;
+use crate::verb::LinkVerb;
+use crate::verb::Verb;
+use libc::STDIN_FILENO;
+use link::Link;
+
+// A line longer than the text buffer counts as this many bytes.
+const TOO_LONG: usize = 4097;
+
+fn opened() -> Player {
+    Player {
+        link: Link::open(),
+        ticks: 0,
+        line: 258,
+        up: 254,
+        waiting: 0,
+    }
+}
+
+fn with_waiting(player: Player, waiting: usize) -> Player {
+    let mut next = player;
+    next.waiting = waiting;
+    next
+}
+
+fn with_rooms(player: Player, line: usize, up: usize) -> Player {
+    let mut next = player;
+    next.line = line;
+    next.up = up;
+    next
+}
+
+fn on_lent(
+    verb: LinkVerb,
+    count: u32,
+    bytes: &[u8],
+    player: Player,
+    line: &mut [u8],
+    up: &mut [u8],
+    out: &mut [u8],
+) -> Player {
+    let n = within(player.line, line);
+    let k = within(player.up, up);
+    on_link(
+        verb,
+        count,
+        bytes,
+        player,
+        &mut line[0..n],
+        &mut up[0..k],
+        out,
+    )
+}
+
+// Carries an order out.
+fn carry(
+    order: Order,
+    bytes: &[u8],
+    player: Player,
+    line: &mut [u8],
+    up: &mut [u8],
+    out: &mut [u8],
+) -> Player {
+    let verb = order.verb;
+    let numbers = order.numbers;
+    match verb {
+        Verb::Link(call) => on_lent(call, numbers[0], bytes, player, line, up, out),
+        Verb::Frame(call) => {
+            let w = on_frame(call, numbers[0] as usize, bytes, line, out, player.waiting);
+            with_waiting(player, w)
+        }
+        Verb::Body(call) => {
+            let w = on_body(call, numbers, bytes, line, out, player.waiting);
+            with_waiting(player, w)
+        }
+        Verb::Room => with_rooms(player, numbers[0] as usize, numbers[1] as usize),
+        Verb::Unknown => {
+            let w = put(b"error\n", out, player.waiting);
+            with_waiting(player, w)
+        }
+    }
+}
+
+// One line of the script: passed over where it is empty or a comment.
+fn on_line(
+    text: &mut [u8],
+    player: Player,
+    line: &mut [u8],
+    up: &mut [u8],
+    out: &mut [u8],
+) -> Player {
+    if text.len() == 0 {
+        return player;
+    }
+    if text[0] == b'#' {
+        return player;
+    }
+    let order = order_of(text);
+    let n = within(order.count, text);
+    carry(order, &text[0..n], player, line, up, out)
+}
+
+// The same of the first n bytes that were kept; a line that is too long is an error.
+fn on_kept(
+    text: &mut [u8],
+    n: usize,
+    player: Player,
+    line: &mut [u8],
+    up: &mut [u8],
+    out: &mut [u8],
+) -> Player {
+    if text.len() < n {
+        let w = put(b"error\n", out, player.waiting);
+        return with_waiting(player, w);
+    }
+    on_line(&mut text[0..n], player, line, up, out)
+}
+
+// Keeps a byte of a line behind the first n, and answers how many are kept.
+fn keep(b: u8, text: &mut [u8], n: usize) -> usize {
+    if n < text.len() {
+        text[n] = b;
+        return n + 1;
+    }
+    TOO_LONG
+}
+
+// A player, how many bytes are kept of a line that has not ended yet, and whether the script has ended.
+struct Going {
+    pub player: Player,
+    pub kept: usize,
+    pub is_over: bool,
+}
+
+// A part of the script, which may begin and end inside a line.
+fn on_part(
+    part: &[u8],
+    going: Going,
+    text: &mut [u8],
+    line: &mut [u8],
+    up: &mut [u8],
+    out: &mut [u8],
+) -> Going {
+    let mut player = going.player;
+    let mut kept = going.kept;
+    let mut i = 0;
+    while i < part.len() {
+        let b = part[i];
+        i += 1;
+        if b == b'\n' {
+            player = on_kept(text, kept, player, line, up, out);
+            kept = 0;
+        } else {
+            kept = keep(b, text, kept);
+        }
+    }
+    Going {
+        player: player,
+        kept: kept,
+        is_over: false,
+    }
+}
+
+// Reads on in the script, and plays what came.
+fn on_read(
+    going: Going,
+    script: &mut [u8],
+    text: &mut [u8],
+    line: &mut [u8],
+    up: &mut [u8],
+    out: &mut [u8],
+) -> Going {
+    let got = libc::read(STDIN_FILENO, script);
+    let n = io::count(got, script);
+    if n == 0 {
+        let mut over = going;
+        over.is_over = true;
+        return over;
+    }
+    on_part(&script[0..n], going, text, line, up, out)
+}
+
+// The last line, which may have no newline, and what still waits in the output buffer.
+fn finish(going: Going, text: &mut [u8], line: &mut [u8], up: &mut [u8], out: &mut [u8]) {
+    let player = going.player;
+    let last = on_kept(text, going.kept, player, line, up, out);
+    flush(out, last.waiting);
+}
+
+// Plays the script on standard input. A proved loop has to end, and nothing says that the input does: it counts its turns down, from a number that no run uses up.
+pub fn play(script: &mut [u8], text: &mut [u8], line: &mut [u8], up: &mut [u8], out: &mut [u8]) {
+    fill(line);
+    fill(up);
+    let mut going = Going {
+        player: opened(),
+        kept: 0,
+        is_over: false,
+    };
+    let mut turns = u64::MAX;
+    while turns > 0 && !going.is_over {
+        going = on_read(going, script, text, line, up, out);
+        turns -= 1;
+    }
+    finish(going, text, line, up, out);
+}

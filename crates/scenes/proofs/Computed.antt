@@ -1,0 +1,24 @@
+-- The bounds of demand 3 reached by one send and one session, by computation.
+-- Assumes nothing.
+use mathlib.Core.Path.{refl}
+use mathlib.Core.List.{[]}
+use Rattle.frame.specs.Bytes.{xorAll}
+use Rattle.frame.specs.Frame.{frameOf}
+use Rattle.link.specs.Rules.{base}
+use Rattle.link.specs.State.{noBody, noFrame}
+use Rattle.link.specs.Step.{byteOut, tickOut, openOut}
+use Rattle.link.specs.declared.job.Asking.the-variants.{Plain, Asks}
+use Rattle.history.specs.Calls.{send, session, outOf}
+use Rattle.history.specs.History.{after}
+use Rattle.history.specs.Watch.{failed, noResponse}
+use Rattle.history.specs.Demand3.{sendBound, sessionBound}
+use Rattle.scenes.specs.Table.{frame07}
+use Rattle.scenes.specs.Longest.{before, longestSend, longestSession, Reaches}
+
+pub send07-reaches : Reaches base before (send 0 7 []) Plain (longestSend base 5) frame07 (failed 4) sendBound
+unfolding byteOut tickOut openOut frameOf xorAll noBody noFrame
+send07-reaches = record { gave = outOf base (after base before) (send 0 7 []); accepted = refl; verdict = refl }
+
+pub session07-reaches : Reaches base before (session 7 []) (Asks 7) (longestSession base 5) frame07 (noResponse 4) sessionBound
+unfolding byteOut tickOut openOut frameOf xorAll noBody noFrame
+session07-reaches = record { gave = outOf base (after base before) (session 7 []); accepted = refl; verdict = refl }

@@ -1,0 +1,311 @@
+-- The bounds of demand 3 reached by every send and every session: many ticks at once, whatever the frame's bytes are.
+-- Assumes nothing.
+use Prim.Native.Nat.{ℕ, zero, suc, _+_, _-_, _≤_, _<_}
+use mathlib.Core.Path.{_≡_, refl, ap, ap₂, sym, _∙_, subst}
+use mathlib.Core.Bool.{Bool, true, false}
+use mathlib.Core.List.{List, [], _∷_, _++_, append-assoc, append-nil}
+use native.Mathlib.Omega.{arith}
+use native.Mathlib.Nat.{add-assoc, add-zero, zero-add}
+use native.Mathlib.Numerals.{add-one}
+use lib.Dec.{eqb}
+use lib.ListN.{length}
+use lib.Seq.{take-append-seam}
+use borrow.Author.Tests.{lt-ltb, le-ltb, ne-eqb}
+use Rattle.frame.specs.Pick.{pick}
+use Rattle.frame.specs.Bytes.{over}
+use Rattle.frame.specs.Frame.{frameOf}
+use Rattle.link.specs.Rules.{Rules, time, base}
+use Rattle.link.specs.Job.{goesOn, still, putOut, fail, onTick}
+use Rattle.link.specs.Report.{saidOn, sumsOn}
+use Rattle.link.specs.State.{noBody, noFrame}
+use Rattle.link.specs.Step.{Out, out, decided, byteOut, tickOut, openOut}
+use Rattle.link.specs.declared.hearing.Hearing.{Hearing}
+use Rattle.link.specs.declared.hearing.Hearing.the-variants.{Hunting, Head}
+use Rattle.link.specs.declared.hearing.Event.{Event}
+use Rattle.link.specs.declared.hearing.Event.the-variants.{TickHunting, TickInside, Aborted}
+use Rattle.link.specs.declared.job.Act.{Act}
+use Rattle.link.specs.declared.job.Asking.{Asking}
+use Rattle.link.specs.declared.job.Asking.the-variants.{Plain, Asks}
+use Rattle.link.specs.declared.job.Job.{Job}
+use Rattle.link.specs.declared.job.Job.the-variants.{Due, Waiting, BackingOff, Awaiting}
+use Rattle.link.specs.declared.report.Reset.the-variants as reset
+use Rattle.link.specs.declared.report.Sending.{Sending}
+use Rattle.link.specs.declared.report.Sending.the-variants as sending
+use Rattle.link.specs.declared.report.Session.the-variants as session
+use Rattle.link.specs.declared.state.Link.{Link}
+use Rattle.history.specs.Calls.{byte, tick, send, session as sessionCall, Call}
+use Rattle.history.specs.History.{after}
+use Rattle.history.specs.Watch.{Verdict, failed, noResponse, Says, none, says, sendVerdict, verdictIn, verdictOf, Watch, going, gone, ended, add, onward, watch}
+use Rattle.history.specs.Demand3.{Kept, EverySend, EverySession, sendBound, sessionBound}
+use Rattle.scenes.specs.Scene.{lent, silence}
+use Rattle.scenes.specs.Longest.{frameBegins, before, round, toFourth, longestSend, longestSession, Reaches}
+
+add-none : (w : Watch) → add 0 [] w ≡ w
+add-none (going t l) = ap (λ (x : ℕ). going x l) (zero-add t)
+add-none gone = refl
+add-none (ended v t l) = ap (λ (x : ℕ). ended v x l) (zero-add t)
+
+add-add : (t u : ℕ) (l m : List ℕ) (w : Watch) → add t l (add u m w) ≡ add (t + u) (l ++ m) w
+add-add t u l m (going v n) = ap₂ going (sym (add-assoc t u v)) (sym (append-assoc l m n))
+add-add t u l m gone = refl
+add-add t u l m (ended x v n) = ap₂ (ended x) (sym (add-assoc t u v)) (sym (append-assoc l m n))
+
+no-verdict : (a : Asking) (s : Sending) → sendVerdict s ≡ none → verdictIn a s session.Nothing ≡ none
+no-verdict Plain s e = e
+no-verdict (Asks c) s e = refl
+
+module _ (R : Rules) (a : Asking) (f : List ℕ) where
+  -- a link that holds the frame f
+  abbrev at : Hearing → Job → Link
+  at h j = record { core = record { hearing = h; job = j; bad = 0; size = length f }; body = noBody; frame = over f noFrame }
+
+  -- what a tick gives on it
+  abbrev gives : Hearing → Event → Job → Act → Out
+  gives h e j x = out noBody (over f noFrame) (decided h (length f) (saidOn e j) (sumsOn e 0) x)
+
+  -- the calls h take t ticks and put out these bytes, with no verdict before their end; then the watch is w, over the calls after them
+  record Leads (l : Link) (h : List Call) (w : List Call → Watch) (t : ℕ) (line : List ℕ) : Type 0 where
+    to : (k : List Call) → watch R a l (h ++ k) ≡ add t line (w k)
+
+  abbrev goingOn : Link → List Call → Watch
+  goingOn l k = watch R a l k
+
+  abbrev over-with : Verdict → List Call → Watch
+  over-with v k = ended v 0 []
+
+  then : {l l′ : Link} {h h′ : List Call} {w : List Call → Watch} {t u : ℕ} {line more : List ℕ}
+      → Leads l h (goingOn l′) t line → Leads l′ h′ w u more → Leads l (h ++ h′) w (t + u) (line ++ more)
+  then {l} {l′} {h} {h′} {w} {t} {u} {line} {more} p q =
+      record { to = λ k. ap (watch R a l) (append-assoc h h′ k) ∙ p .to (h′ ++ k) ∙ ap (add t line) (q .to k) ∙ add-add t u line more (w k) }
+
+  -- ---- one call
+  tick-gave : (l : Link) (o : Out) → tickOut R l ≡ o → verdictOf a o ≡ none → Leads l (lent tick ∷ []) (goingOn (o .link)) 1 (o .line)
+  tick-gave l o e v =
+      record {
+        to = λ k. ap (λ (x : Out). onward (verdictOf a x) 1 (x .line) (watch R a (x .link) k)) e
+            ∙ ap (λ (s : Says). onward s 1 (o .line) (watch R a (o .link) k)) v;
+      }
+
+  tick-ended : (l : Link) (o : Out) (v : Verdict) → tickOut R l ≡ o → verdictOf a o ≡ says v → o .line ≡ [] → Leads l (lent tick ∷ []) (over-with v) 1 []
+  tick-ended l o v e p q =
+      record {
+        to = λ k. ap (λ (x : Out). onward (verdictOf a x) 1 (x .line) (watch R a (x .link) k)) e
+            ∙ ap₂ (λ (s : Says) (m : List ℕ). onward s 1 m (watch R a (o .link) k)) p q;
+      }
+
+  -- the verdict, from the accepting call on
+  finish : {l : Link} {h : List Call} {v : Verdict} {t : ℕ} (line : List ℕ) → Leads l h (over-with v) t (line ++ []) → add 0 [] (watch R a l h) ≡ ended v t line
+  finish {l} {h} {v} {t} line p =
+      add-none (watch R a l h) ∙ ap (watch R a l) (sym (append-nil h)) ∙ p .to [] ∙ ap₂ (ended v) (add-zero t) (append-nil (line ++ []) ∙ append-nil line)
+
+  -- a tick while hunting, by what the job does
+  hunting : (j j′ : Job) (s : Sending) → onTick R (length f) true j ≡ goesOn j′ s → sendVerdict s ≡ none
+      → Leads (at Hunting j) (lent tick ∷ []) (goingOn (at Hunting j′)) 1 []
+  unfolding tickOut
+  hunting j j′ s e v = tick-gave (at Hunting j) (gives Hunting TickHunting j (goesOn j′ s)) (ap (gives Hunting TickHunting j) e) (no-verdict a s v)
+
+  -- m quiet ticks by a family of links, then one tick more
+  quiet-then : (g : ℕ → Link) (w : List Call → Watch) (line : List ℕ) (m : ℕ) → ((i : ℕ) → i < m → Leads (g i) (lent tick ∷ []) (goingOn (g (suc i))) 1 [])
+      → Leads (g m) (lent tick ∷ []) w 1 line → Leads (g 0) (silence (suc m)) w (suc m) line
+  quiet-then g w line zero q p = p
+  quiet-then g w line (suc m) q p =
+      subst (λ (t : ℕ). Leads (g 0) (silence (suc (suc m))) w t line) (let e : 1 + suc m ≡ suc (suc m) = omega arith in e)
+      (then (q 0 (omega arith)) (quiet-then (λ i. g (suc i)) w line m (λ i h. q (suc i) (omega arith)) p))
+
+  quietly : (g : ℕ → Link) (m : ℕ) → ((i : ℕ) → i < m → Leads (g i) (lent tick ∷ []) (goingOn (g (suc i))) 1 []) → Leads (g 0) (silence m) (goingOn (g m)) m []
+  quietly g zero q = record { to = λ k. sym (add-none (watch R a (g 0) k)) }
+  quietly g (suc m) q = quiet-then g (goingOn (g (suc m))) [] m (λ i h. q i (omega arith)) (q m (omega arith))
+
+  -- ---- waiting for the ACK
+  waiting : (n e : ℕ) → suc e < R .wait (length f) → onTick R (length f) true (Waiting a n e) ≡ still (Waiting a n (suc e))
+  waiting n e h = rw (add-one e, lt-ltb (suc e) (R .wait (length f)) h)
+
+  lost : (n e : ℕ) → suc e ≡ R .wait (length f) → n < 4 → 0 < R .back time n
+      → onTick R (length f) true (Waiting a n e) ≡ goesOn (BackingOff a n (R .back time n)) (sending.BackingOff (record { 0 = R .back time n }))
+  lost n e h q p = rw (add-one e, le-ltb (suc e) (R .wait (length f)) (omega arith), lt-ltb n 4 q, ne-eqb (R .back time n) 0 (λ z. omega arith))
+
+  wait-then : (n : ℕ) (w : List Call → Watch) → 0 < R .wait (length f)
+      → Leads (at Hunting (Waiting a n (R .wait (length f) - 1))) (lent tick ∷ []) w 1 [] → Leads (at Hunting (Waiting a n 0)) (silence (R .wait (length f))) w (R .wait (length f)) []
+  wait-then n w h p =
+      subst (λ (t : ℕ). Leads (at Hunting (Waiting a n 0)) (silence t) w t []) (let e : suc (R .wait (length f) - 1) ≡ R .wait (length f) = omega arith in e)
+      (quiet-then (λ i. at Hunting (Waiting a n i)) w [] (R .wait (length f) - 1) (λ i q. hunting _ _ sending.Nothing (waiting n i (omega arith)) refl) p)
+
+  -- ---- backing off
+  backing : (n b : ℕ) → onTick R (length f) true (BackingOff a n (suc (suc b))) ≡ still (BackingOff a n (suc b))
+  backing n b =
+      let e : suc (suc b) - 1 ≡ suc b = omega arith in
+      rw (lt-ltb 1 (suc (suc b)) (omega arith), e)
+
+  -- to its last tick
+  backed-off : (n b : ℕ) → Leads (at Hunting (BackingOff a n (suc b))) (silence b) (goingOn (at Hunting (BackingOff a n 1))) b []
+  backed-off n zero = record { to = λ k. sym (add-none (watch R a (at Hunting (BackingOff a n 1)) k)) }
+  backed-off n (suc b) =
+      subst (λ (t : ℕ). Leads (at Hunting (BackingOff a n (suc (suc b)))) (silence (suc b)) (goingOn (at Hunting (BackingOff a n 1))) t [])
+      (let e : 1 + b ≡ suc b = omega arith in e)
+      (then (hunting _ _ sending.Nothing (backing n b) refl) (backed-off n b))
+
+  back-then : (n : ℕ) → 0 < R .back time n
+      → Leads (at Hunting (BackingOff a n (R .back time n))) (silence (R .back time n - 1)) (goingOn (at Hunting (BackingOff a n 1))) (R .back time n - 1) []
+  back-then n h =
+      subst (λ (b : ℕ). Leads (at Hunting (BackingOff a n b)) (silence (R .back time n - 1)) (goingOn (at Hunting (BackingOff a n 1))) (R .back time n - 1) [])
+      (let e : suc (R .back time n - 1) ≡ R .back time n = omega arith in e)
+      (backed-off n (R .back time n - 1))
+
+  -- ---- a frame that begins, and its abort
+  begins : (j : Job) → Leads (at Hunting j) (frameBegins ∷ []) (goingOn (at (Head 0) j)) 0 []
+  unfolding byteOut
+  begins j = record { to = λ k. ap (λ (s : Says). onward s 0 [] (watch R a (at (Head 0) j) k)) (no-verdict a sending.Nothing refl) }
+
+  inside : (c : ℕ) (j j′ : Job) (s : Sending) → suc c < 1501 → onTick R (length f) false j ≡ goesOn j′ s → sendVerdict s ≡ none
+      → Leads (at (Head c) j) (lent tick ∷ []) (goingOn (at (Head (suc c)) j′)) 1 []
+  unfolding tickOut
+  inside c j j′ s h e v =
+      tick-gave (at (Head c) j) (gives (Head (suc c)) TickInside j (goesOn j′ s))
+      (rw (add-one c, lt-ltb (suc c) 1501 h) (ap (gives (Head (suc c)) TickInside j) e)) (no-verdict a s v)
+
+  abbrev copyOut : ℕ → Act
+  copyOut n = record { job = Waiting a n 0; sending = sending.Copy n; session = session.Nothing; reset = reset.Nothing; copy = true }
+
+  aborts : (n : ℕ) → n < 4 → Leads (at (Head 1500) (Due a n)) (lent tick ∷ []) (goingOn (at Hunting (Waiting a (n + 1) 0))) 1 f
+  unfolding tickOut
+  aborts n h =
+      subst (λ (x : List ℕ). Leads (at (Head 1500) (Due a n)) (lent tick ∷ []) (goingOn (at Hunting (Waiting a (n + 1) 0))) 1 x)
+      (take-append-seam f _)
+      (tick-gave (at (Head 1500) (Due a n)) (gives Hunting Aborted (Due a n) (copyOut (n + 1)))
+      (ap (gives Hunting Aborted (Due a n)) (let e : putOut a n ≡ copyOut (n + 1) = rw (lt-ltb n 4 h) in e)) (no-verdict a (sending.Copy (n + 1)) refl))
+
+  -- due from the start of the frame
+  due-then : Leads (at (Head 0) (Due a 0)) (silence 1501) (goingOn (at Hunting (Waiting a 1 0))) 1501 f
+  due-then =
+      quiet-then (λ i. at (Head i) (Due a 0)) _ f 1500 (λ i h. inside i (Due a 0) (Due a 0) sending.Nothing (omega arith) refl refl) (aborts 0 (omega arith))
+
+  -- the back-off ends with the frame's first tick
+  abbrev comesDue : ℕ → ℕ → Link
+  comesDue n zero = at (Head 0) (BackingOff a n 1)
+  comesDue n (suc i) = at (Head (suc i)) (Due a n)
+
+  comes-due : (n i : ℕ) → i < 1500 → Leads (comesDue n i) (lent tick ∷ []) (goingOn (comesDue n (suc i))) 1 []
+  comes-due n zero h = inside 0 (BackingOff a n 1) (Due a n) sending.Due (omega arith) refl refl
+  comes-due n (suc i) h = inside (suc i) (Due a n) (Due a n) sending.Nothing (omega arith) refl refl
+
+  come-due : (n : ℕ) → n < 4 → Leads (at (Head 0) (BackingOff a n 1)) (silence 1501) (goingOn (at Hunting (Waiting a (n + 1) 0))) 1501 f
+  come-due n h = quiet-then (comesDue n) _ f 1500 (comes-due n) (aborts n h)
+
+  -- ---- a round: from copy n to copy n + 1
+  abbrev roundTime : ℕ → ℕ
+  roundTime n = R .wait (length f) + (R .back time n - 1 + 1501)
+
+  abbrev fourthTime : ℕ
+  fourthTime = 1501 + (roundTime 1 + (roundTime 2 + roundTime 3))
+
+  module _ (some : 0 < R .wait (length f)) (backs : (n : ℕ) → 0 < R .back time n) where
+    round-leads : (n : ℕ) → n < 4
+        → Leads (at Hunting (Waiting a n 0)) (round R (length f) n) (goingOn (at Hunting (Waiting a (n + 1) 0))) (roundTime n) f
+    round-leads n h =
+        then (wait-then n _ some (hunting _ _ _ (lost n (R .wait (length f) - 1) (omega arith) h (backs n)) refl))
+        (then (back-then n (backs n)) (then (begins (BackingOff a n 1)) (come-due n h)))
+
+    fourth-leads : Leads (at (Head 0) (Due a 0)) (toFourth R (length f)) (goingOn (at Hunting (Waiting a 4 0))) fourthTime (f ++ (f ++ (f ++ f)))
+    fourth-leads = then due-then (then (round-leads 1 (omega arith)) (then (round-leads 2 (omega arith)) (round-leads 3 (omega arith))))
+
+-- ---- the verdicts
+fails : (R : Rules) (f : List ℕ) (e : ℕ) → suc e ≡ R .wait (length f)
+    → Leads R Plain f (at R Plain f Hunting (Waiting Plain 4 e)) (lent tick ∷ []) (over-with R Plain f (failed 4)) 1 []
+unfolding tickOut
+fails R f e h =
+    let p : onTick R (length f) true (Waiting Plain 4 e) ≡ fail Plain 4 = rw (add-one e, le-ltb (suc e) (R .wait (length f)) (omega arith)) in
+    tick-ended R Plain f _ (gives R Plain f Hunting TickHunting (Waiting Plain 4 e) (fail Plain 4)) (failed 4)
+    (ap (gives R Plain f Hunting TickHunting (Waiting Plain 4 e)) p) refl refl
+
+-- 06: the session waits for the response
+acknowledged : (R : Rules) (c : ℕ) (f : List ℕ) (n e : ℕ)
+    → Leads R (Asks c) f (at R (Asks c) f Hunting (Waiting (Asks c) n e)) (lent (byte 0x06) ∷ []) (goingOn R (Asks c) f (at R (Asks c) f Hunting (Awaiting c n 0))) 0 []
+unfolding byteOut
+acknowledged R c f n e = record { to = λ k. refl }
+
+awaiting : (R : Rules) (c size n e : ℕ) → suc e < 5000 → onTick R size true (Awaiting c n e) ≡ still (Awaiting c n (suc e))
+awaiting R c size n e h = rw (add-one e, lt-ltb (suc e) 5000 h)
+
+no-response : (R : Rules) (c : ℕ) (f : List ℕ) (n : ℕ)
+    → Leads R (Asks c) f (at R (Asks c) f Hunting (Awaiting c n 0)) (silence 5000) (over-with R (Asks c) f (noResponse n)) 5000 []
+unfolding tickOut
+no-response R c f n =
+    quiet-then R (Asks c) f (λ i. at R (Asks c) f Hunting (Awaiting c n i)) (over-with R (Asks c) f (noResponse n)) [] 4999
+    (λ i h. hunting R (Asks c) f _ _ sending.Nothing (awaiting R c (length f) n i (omega arith)) refl)
+    (tick-ended R (Asks c) f _ _ (noResponse n) refl refl refl)
+
+-- ---- every send and every session, for any rules with waits and back-offs
+abbrev pub sendTime : Rules → List ℕ → ℕ
+sendTime R f = fourthTime R Plain f + R .wait (length f)
+
+abbrev pub sessionTime : Rules → ℕ → List ℕ → ℕ
+sessionTime R c f = fourthTime R (Asks c) f + (R .wait (length f) - 1 + 5000)
+
+module _ (R : Rules) (backs : (n : ℕ) → 0 < R .back time n) where
+  pub send-reaches : (kind command : ℕ) (ps : List ℕ) → kind ≤ 1 → length ps ≤ 252 → 0 < R .wait (length (frameOf kind command ps))
+      → Reaches R before (send kind command ps) Plain (longestSend R (length (frameOf kind command ps))) (frameOf kind command ps) (failed 4) (sendTime R (frameOf kind command ps))
+  unfolding byteOut openOut
+  send-reaches kind command ps k n some =
+      let f = frameOf kind command ps in
+      record {
+        gave = openOut (after R before) Plain f;
+        accepted = rw (le-ltb 1 kind k, le-ltb 252 (length ps) n);
+        verdict = finish R Plain f (f ++ (f ++ (f ++ f))) (then R Plain f (fourth-leads R Plain f some backs) (wait-then R Plain f 4 _ some (fails R f _ (omega arith))));
+      }
+
+  pub session-reaches : (command : ℕ) (ps : List ℕ) → length ps ≤ 252 → 0 < R .wait (length (frameOf 0 command ps))
+      → Reaches R before (sessionCall command ps) (Asks command) (longestSession R (length (frameOf 0 command ps))) (frameOf 0 command ps) (noResponse 4)
+      (sessionTime R command (frameOf 0 command ps))
+  unfolding byteOut openOut
+  session-reaches command ps n some =
+      let f = frameOf 0 command ps in
+      let a : Asking = Asks command in
+      record {
+        gave = openOut (after R before) a f;
+        accepted = rw (le-ltb 252 (length ps) n);
+        verdict =
+            finish R a f (f ++ (f ++ (f ++ f)))
+            (then R a f (fourth-leads R a f some backs)
+            (then R a f (quietly R a f (λ i. at R a f Hunting (Waiting a 4 i)) (R .wait (length f) - 1) (λ i q. hunting R a f _ _ sending.Nothing (waiting R a f 4 i (omega arith)) refl))
+            (then R a f (acknowledged R command f 4 (R .wait (length f) - 1)) (no-response R command f 4))));
+      }
+
+-- ---- document 01's rules
+either-some : (t : Bool) (x y : ℕ) → 0 < x → 0 < y → 0 < pick t x y
+either-some true x y p q = p
+either-some false x y p q = q
+
+base-backs : (n : ℕ) → 0 < base .back time n
+base-backs n = either-some (eqb n 1) 100 _ (omega arith) (either-some (eqb n 2) 1100 2100 (omega arith) (omega arith))
+
+-- in numbers: the same calls for every frame
+abbrev pub inFrame : ℕ → List Call
+inFrame quiet = silence 1600 ++ (silence quiet ++ (frameBegins ∷ silence 1501))
+
+pub longest-send-is : (size : ℕ) → longestSend base size ≡ (silence 1501 ++ (inFrame 99 ++ (inFrame 1099 ++ inFrame 2099))) ++ silence 1600
+longest-send-is size = refl
+
+pub longest-session-is : (size : ℕ)
+    → longestSession base size ≡ (silence 1501 ++ (inFrame 99 ++ (inFrame 1099 ++ inFrame 2099))) ++ (silence 1599 ++ (lent (byte 0x06) ∷ silence 5000))
+longest-session-is size = refl
+
+-- Every send reaches its bound: failed, 4 copies, on exactly the 15,701st accepted tick.
+pub every-send-reaches : (kind command : ℕ) (ps : List ℕ) → kind ≤ 1 → length ps ≤ 252
+    → Reaches base before (send kind command ps) Plain (longestSend base (length (frameOf kind command ps))) (frameOf kind command ps) (failed 4) sendBound
+every-send-reaches kind command ps k n = send-reaches base base-backs kind command ps k n (omega arith)
+
+-- Every session reaches its bound: no response, 4 copies, on exactly the 20,700th accepted tick.
+pub every-session-reaches : (command : ℕ) (ps : List ℕ) → length ps ≤ 252
+    → Reaches base before (sessionCall command ps) (Asks command) (longestSession base (length (frameOf 0 command ps))) (frameOf 0 command ps) (noResponse 4) sessionBound
+every-session-reaches command ps n = session-reaches base base-backs command ps n (omega arith)
+
+-- So demand 3 holds with no smaller bound.
+pub send-bound-least : (b : ℕ) → EverySend base (λ size. b) → sendBound ≤ b
+send-bound-least b d =
+    let r = every-send-reaches 0 7 [] (omega arith) (omega arith) in
+    (subst (Kept (frameOf 0 7 []) b) (r .verdict) ((d before (longestSend base 5) 258 254 0 7 [] (r .gave) (r .accepted)) .kept)) .soon
+
+pub session-bound-least : (b : ℕ) → EverySession base (λ size. b) → sessionBound ≤ b
+session-bound-least b d =
+    let r = every-session-reaches 7 [] (omega arith) in
+    (subst (Kept (frameOf 0 7 []) b) (r .verdict) ((d before (longestSession base 5) 258 254 7 [] (r .gave) (r .accepted)) .kept)) .soon

@@ -1,0 +1,64 @@
+-- An example of document 01: a question to its definitions, and the answer that the document prints.
+-- Assumes nothing.
+use Prim.Native.Nat.{ℕ}
+use mathlib.Core.Path.{_≡_}
+use mathlib.Core.List.{List, [], _∷_}
+use lib.ListN.{length}
+use Rattle.frame.specs.Frame.{frameOf}
+use Rattle.frame.specs.Builder as builder
+use Rattle.frame.specs.Reader.{readingOf}
+use Rattle.frame.specs.declared.builder.Built.{Built}
+use Rattle.frame.specs.declared.reader.Reading.{Reading}
+use Rattle.units.specs.Units.{convertedOf}
+use Rattle.units.specs.declared.Millis.{Millis}
+use Rattle.link.specs.Rules.{base}
+use Rattle.bodies.specs.Nodes as nodes
+use Rattle.bodies.specs.Timeouts.{ticksFor, setOf}
+use Rattle.bodies.specs.declared.nodes.NodeList.{NodeList}
+use Rattle.history.specs.Calls.{Call}
+use Rattle.scenes.specs.Scene.{Seen, seen}
+
+pub data Question : Type 0 where
+  -- build a frame into lent bytes
+  build : (kind command : ℕ) (ps lent : List ℕ) → Question
+  -- the same, by the Set Timeouts command
+  setTimeouts : (rxack rxbyte : Millis) (lent : List ℕ) → Question
+  -- read a whole frame
+  read : (bytes : List ℕ) → Question
+  -- list the nodes of a body into lent bytes
+  list : (body lent : List ℕ) → Question
+  -- play a scene
+  play : (calls : List Call) → Question
+
+pub data Answer : Type 0 where
+  -- what is answered, and the lent bytes after it
+  built : Built → (left : List ℕ) → Answer
+  reading : Reading → Answer
+  listed : NodeList → (left : List ℕ) → Answer
+  -- what is seen, first to last
+  shows : List Seen → Answer
+
+-- by the definitions that the functions' promises cite
+abbrev pub answerTo : Question → Answer
+answerTo (build kind command ps lent) =
+    built (builder.builtOf kind (length ps) (length lent)) (builder.leftBy (builder.builtOf kind (length ps) (length lent)) (frameOf kind command ps) lent)
+answerTo (setTimeouts rxack rxbyte lent) =
+    built (setOf (convertedOf rxack) (convertedOf rxbyte) (length lent))
+    (builder.leftBy (setOf (convertedOf rxack) (convertedOf rxbyte) (length lent)) (frameOf 0 6 (ticksFor (convertedOf rxack) (convertedOf rxbyte))) lent)
+answerTo (read bytes) = reading (readingOf bytes)
+answerTo (list body lent) =
+    listed (nodes.nodeListOf body (length lent)) (nodes.leftBy (nodes.nodeListOf body (length lent)) (nodes.nodesOf body) lent)
+answerTo (play calls) = shows (seen base calls)
+
+-- a row of the table
+pub record Example : Type 0 where
+  pub question : Question
+  pub expected : Answer
+
+abbrev pub Holds : Example → Type 0
+Holds e = answerTo (e .question) ≡ e .expected
+
+-- every row of a table
+abbrev pub All : List Example → Type 0
+All [] = Unit {0}
+All (e ∷ es) = Holds e × All es

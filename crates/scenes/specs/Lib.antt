@@ -1,0 +1,4 @@
+pub mod Scene
+pub mod Example
+pub mod Table
+pub mod Longest

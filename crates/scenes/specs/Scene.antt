@@ -1,0 +1,46 @@
+-- A scene: calls on a fresh link, each lent what it needs, and what is seen of them, with the ticks.
+-- Assumes nothing.
+use Prim.Native.Nat.{ℕ, zero, suc, _+_}
+use mathlib.Core.List.{List, [], _∷_}
+use Rattle.frame.specs.Pick.{pick}
+use Rattle.frame.specs.declared.refusal.Refusal.{Refusal}
+use Rattle.link.specs.Rules.{Rules}
+use Rattle.link.specs.State.{freshLink}
+use Rattle.link.specs.Step.{news}
+use Rattle.link.specs.declared.report.Reception.{Reception}
+use Rattle.link.specs.declared.report.Reset.{Reset}
+use Rattle.link.specs.declared.report.Sending.{Sending}
+use Rattle.link.specs.declared.report.Session.{Session}
+use Rattle.link.specs.declared.state.Link.{Link}
+use Rattle.history.specs.Calls.{What, tick, Call, Done, refused, took, perform}
+use Rattle.history.specs.History.{next, ticksOf, accepted}
+
+-- a call with 258 bytes lent for the line and 254 for the frame handed up
+abbrev pub lent : What → Call
+lent w = record { what = w; line = 258; up = 254 }
+
+-- n ticks and no byte
+abbrev pub silence : ℕ → List Call
+silence zero = []
+silence (suc n) = lent tick ∷ silence n
+
+-- what a call says, after so many accepted ticks in all: its report's four parts and the bytes for the line, or its refusal
+pub data Seen : Type 0 where
+  said : (ticks : ℕ) → Reception → Sending → Session → Reset → (line : List ℕ) → Seen
+  refusal : (ticks : ℕ) → Refusal → Seen
+
+-- A report of "nothing" or "skipped" is passed over.
+abbrev pub seenDone : ℕ → Done → List Seen → List Seen
+seenDone t (refused k) rest = refusal t k ∷ rest
+seenDone t (took o) rest = pick (news o) (said t (o .reception) (o .sending) (o .session) (o .reset) (o .line) ∷ rest) rest
+
+-- over these calls, from a link, with so many ticks before
+abbrev pub seenFrom : Rules → Link → ℕ → List Call → List Seen
+seenFrom R l t [] = []
+seenFrom R l t (c ∷ h) =
+    seenDone (t + accepted (ticksOf (c .what)) (perform R l c)) (perform R l c)
+    (seenFrom R (next l (perform R l c)) (t + accepted (ticksOf (c .what)) (perform R l c)) h)
+
+-- from opening
+abbrev pub seen : Rules → List Call → List Seen
+seen R h = seenFrom R freshLink 0 h

@@ -1,0 +1,199 @@
+-- Section 10: the examples with a star, in the document's order and words. A tick's number is that of the accepted ticks so far.
+-- Assumes nothing.
+use Prim.Native.Nat.{ℕ}
+use mathlib.Core.List.{List, [], _∷_, _++_}
+use lib.ListN.{replicate}
+use Rattle.frame.specs.declared.builder.Built.the-variants.{Frame}
+use Rattle.frame.specs.declared.reader.Reading.the-variants.{Refused}
+use Rattle.frame.specs.declared.refusal.Refusal.the-variants as refusal
+use Rattle.link.specs.declared.report.Reception.{Reception}
+use Rattle.link.specs.declared.report.Reception.the-variants as reception
+use Rattle.link.specs.declared.report.Reset.{Reset}
+use Rattle.link.specs.declared.report.Reset.the-variants as reset
+use Rattle.link.specs.declared.report.Sending.{Sending}
+use Rattle.link.specs.declared.report.Sending.the-variants as sending
+use Rattle.link.specs.declared.report.Session.the-variants as session
+use Rattle.bodies.specs.declared.nodes.NodeList.the-variants as nodes
+use Rattle.history.specs.Calls.{Call, byte, send}
+use Rattle.scenes.specs.Scene.{lent, silence, Seen, said}
+use Rattle.scenes.specs.Example.{build, setTimeouts, read, list, play, built, reading, listed, shows, Example}
+
+-- ---- the words of the scenes
+-- the frame that the scenes send: REQ 07, no parameters
+abbrev pub frame07 : List ℕ
+frame07 = 0x01 ∷ 0x03 ∷ 0x00 ∷ 0x07 ∷ 0xFB ∷ []
+
+abbrev pub send07 : Call
+send07 = lent (send 0x00 0x07 [])
+
+-- one byte received
+abbrev pub received : ℕ → Call
+received b = lent (byte b)
+
+-- a frame received, byte by byte: with a wrong checksum, with the right one
+abbrev pub bad : List Call
+bad = received 0x01 ∷ received 0x03 ∷ received 0x00 ∷ received 0x07 ∷ received 0xFA ∷ []
+
+abbrev pub good : List Call
+good = received 0x01 ∷ received 0x03 ∷ received 0x00 ∷ received 0x07 ∷ received 0xFB ∷ []
+
+-- after so many ticks the sending part says this, with these bytes, and no other part says anything
+abbrev pub says : ℕ → Sending → List ℕ → Seen
+says t s line = said t reception.Nothing s session.Nothing reset.Nothing line
+
+-- copy n goes out, whole
+abbrev pub copy : ℕ → ℕ → Seen
+copy n t = says t (sending.Copy n) frame07
+
+abbrev pub backsOff : ℕ → ℕ → Seen
+backsOff ticks t = says t (sending.BackingOff (record { 0 = ticks })) []
+
+-- failed with 4 copies, and a reset with reason "delivery"
+abbrev pub failed : ℕ → Seen
+failed t = said t reception.Nothing (sending.Failed 4) session.Nothing reset.Delivery []
+
+-- copy 1, its back-off, copy 2, its back-off, copy 3, its back-off, copy 4 and the failure, on these ticks
+abbrev pub fourCopies : (c₁ b₁ c₂ b₂ c₃ b₃ c₄ end : ℕ) → List Seen
+fourCopies c₁ b₁ c₂ b₂ c₃ b₃ c₄ end =
+    copy 1 c₁ ∷ backsOff 100 b₁ ∷ copy 2 c₂ ∷ backsOff 1_100 b₂ ∷ copy 3 c₃ ∷ backsOff 2_100 b₃ ∷ copy 4 c₄ ∷ failed end ∷ []
+
+-- before any tick reception says this and puts out one byte
+abbrev pub hears : Reception → Reset → ℕ → Seen
+hears r x reply = said 0 r sending.Nothing session.Nothing x (reply ∷ [])
+
+-- ---- the table
+-- REQ 07, no parameters: 01 03 00 07 FB.
+unfoldable pub req07 : Example
+req07 =
+    record {
+      question = build 0x00 0x07 [] (replicate 5 0);
+      expected = built (Frame 5) (0x01 ∷ 0x03 ∷ 0x00 ∷ 0x07 ∷ 0xFB ∷ []);
+    }
+
+-- REQ 06 with 96 0F (1,500 and 150 ms): 01 05 00 06 96 0F 65.
+abbrev pub frame06 : List ℕ
+frame06 = 0x01 ∷ 0x05 ∷ 0x00 ∷ 0x06 ∷ 0x96 ∷ 0x0F ∷ 0x65 ∷ []
+
+unfoldable pub req06 : Example
+req06 = record { question = build 0x00 0x06 (0x96 ∷ 0x0F ∷ []) (replicate 7 0); expected = built (Frame 7) frame06 }
+
+unfoldable pub req06-times : Example
+req06-times =
+    record {
+      question = setTimeouts (record { 0 = 1500 }) (record { 0 = 150 }) (replicate 7 0);
+      expected = built (Frame 7) frame06;
+    }
+
+-- 01 03 00 07 FA is SUM; 01 02 00 FD is LENGTH; 01 03 00 07 is SHORT; 01 03 02 07 F9 is KIND.
+unfoldable pub is-sum : Example
+is-sum = record { question = read (0x01 ∷ 0x03 ∷ 0x00 ∷ 0x07 ∷ 0xFA ∷ []); expected = reading (Refused refusal.Sum) }
+
+unfoldable pub is-length : Example
+is-length = record { question = read (0x01 ∷ 0x02 ∷ 0x00 ∷ 0xFD ∷ []); expected = reading (Refused refusal.Length) }
+
+unfoldable pub is-short : Example
+is-short = record { question = read (0x01 ∷ 0x03 ∷ 0x00 ∷ 0x07 ∷ []); expected = reading (Refused refusal.Short) }
+
+unfoldable pub is-kind : Example
+is-kind = record { question = read (0x01 ∷ 0x03 ∷ 0x02 ∷ 0x07 ∷ 0xF9 ∷ []); expected = reading (Refused refusal.Kind) }
+
+-- 06 after 1,599 ticks: acknowledged, 1 copy.
+unfoldable pub ack-in-time : Example
+ack-in-time =
+    record {
+      question = play (send07 ∷ (silence 1_599 ++ (received 0x06 ∷ [])));
+      expected = shows (copy 1 0 ∷ says 1_599 (sending.Acknowledged 1) [] ∷ []);
+    }
+
+-- Copy 2 of a silent line goes out on tick 1,700.
+unfoldable pub second-copy : Example
+second-copy =
+    record {
+      question = play (send07 ∷ silence 1_700);
+      expected = shows (copy 1 0 ∷ backsOff 100 1_600 ∷ copy 2 1_700 ∷ []);
+    }
+
+-- Silence: copies at ticks 0, 1,700, 4,400, 8,100, failed at 9,700.
+unfoldable pub silent-line : Example
+silent-line =
+    record {
+      question = play (send07 ∷ silence 9_700);
+      expected = shows (fourCopies 0 1_600 1_700 3_300 4_400 6_000 8_100 9_700);
+    }
+
+-- 15 straight after every copy: copies at 0, 100, 1,200, 3,300, failed at 3,300.
+abbrev pub told : List Call → List Call
+told rest = received 0x15 ∷ rest
+
+unfoldable pub told-each-time : Example
+told-each-time =
+    record {
+      question = play (send07 ∷ told (silence 100 ++ told (silence 1_100 ++ told (silence 2_100 ++ told []))));
+      expected = shows (fourCopies 0 0 100 100 1_200 1_200 3_300 3_300);
+    }
+
+-- 01 received, then a send, then no byte: copy 1 on tick 1,501.
+unfoldable pub due-in-a-frame : Example
+due-in-a-frame =
+    record {
+      question = play (received 0x01 ∷ send07 ∷ silence 1_501);
+      expected =
+          shows
+          (says 0 sending.Due []
+          ∷ said 1_501 reception.Abort (sending.Copy 1) session.Nothing reset.Nothing frame07
+          ∷ []);
+    }
+
+-- Bad, bad, bad: reset on the third.
+unfoldable pub three-bad : Example
+three-bad =
+    record {
+      question = play (bad ++ (bad ++ bad));
+      expected =
+          shows
+          (hears reception.BadSum reset.Nothing 0x15
+          ∷ hears reception.BadSum reset.Nothing 0x15
+          ∷ hears reception.BadSum reset.Sums 0x15
+          ∷ []);
+    }
+
+-- Bad, bad, good, bad: none.
+unfoldable pub good-between : Example
+good-between =
+    record {
+      question = play (bad ++ (bad ++ (good ++ bad)));
+      expected =
+          shows
+          (hears reception.BadSum reset.Nothing 0x15
+          ∷ hears reception.BadSum reset.Nothing 0x15
+          ∷ hears reception.Frame reset.Nothing 0x06
+          ∷ hears reception.BadSum reset.Nothing 0x15
+          ∷ []);
+    }
+
+-- First mask byte 05: nodes 1 and 3. (Version 05, capabilities 08, 29 mask bytes, chip type 07, chip version 00; room for 232.)
+unfoldable pub first-byte-05 : Example
+first-byte-05 =
+    record {
+      question = list (0x01 ∷ 0x02 ∷ 0x05 ∷ 0x08 ∷ 29 ∷ 0x05 ∷ (replicate 28 0 ++ (0x07 ∷ 0x00 ∷ []))) (replicate 232 0);
+      expected = listed (nodes.Answer 0x05 0x08 2 0x07 0x00) (1 ∷ 3 ∷ replicate 230 0);
+    }
+
+abbrev pub table : List Example
+table =
+    req07
+    ∷ req06
+    ∷ req06-times
+    ∷ is-sum
+    ∷ is-length
+    ∷ is-short
+    ∷ is-kind
+    ∷ ack-in-time
+    ∷ second-copy
+    ∷ silent-line
+    ∷ told-each-time
+    ∷ due-in-a-frame
+    ∷ three-bad
+    ∷ good-between
+    ∷ first-byte-05
+    ∷ []
