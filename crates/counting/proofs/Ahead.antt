@@ -6,24 +6,22 @@ use mathlib.Core.List.{List, [], _∷_, _++_}
 use Prim.Native.Nat.{ℕ, zero, suc, _+_, _-_, _≤_, _<_}
 use native.Mathlib.Numerals.{add-one}
 use native.Mathlib.Omega.{arith}
-use borrow.Author.Tests.{lt-ltb, le-ltb, eq-eqb, ne-eqb}
-use lib.Bits.{bitXor}
+use borrow.Author.Tests.{lt-ltb, le-ltb, ne-eqb}
 use lib.Dec.{eqb, ltb}
 use lib.ListN.{length, take, drop, getD, take-append-drop, length-drop}
 use lib.Seq.{drop-cons, drop-drop, length-take-le}
 use Rattle.frame.specs.Pick.{pick}
 use Rattle.frame.specs.Bytes.{xorAll}
-use Rattle.link.specs.Hearing.{heard, heardByte, begun, more, ended, followed}
+use Rattle.link.specs.Hearing.{heard, begun, more, ended}
 use Rattle.link.specs.declared.hearing.Partial.{Partial}
 use Rattle.link.specs.declared.hearing.Hearing.{Hearing}
 use Rattle.link.specs.declared.hearing.Hearing.the-variants.{Hunting, Head, Body}
 use Rattle.link.specs.declared.hearing.Single.the-variants.{Ack, Nak, Can}
-use Rattle.link.specs.declared.hearing.End.{End}
-use Rattle.link.specs.declared.hearing.End.the-variants.{BadLength, BadSum, Reserved, Request, Response}
-use Rattle.link.specs.declared.hearing.Event.the-variants.{Skipped, Alone, Ended}
+use Rattle.link.specs.declared.hearing.End.the-variants.{BadSum, Reserved, Request, Response}
+use Rattle.link.specs.declared.hearing.Event.the-variants.{Skipped, Alone}
 use Rattle.counting.specs.declared.Counts.{Counts}
 use Rattle.counting.specs.declared.Tally.{Tally}
-use Rattle.counting.specs.Counting.{endColumn, column, added, tallied, countedByte, countedFrom}
+use Rattle.counting.specs.Counting.{endColumn, added, tallied, countedByte, countedFrom}
 use Rattle.counting.specs.Ahead.{hunting, apart, whole, Ahead, Onward}
 use Rattle.counting.proofs.Laws.{count-more}
 

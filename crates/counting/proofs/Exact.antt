@@ -5,7 +5,7 @@ use mathlib.Core.Bool.{Bool, true, false}
 use mathlib.Core.List.{List, [], _∷_}
 use Prim.Native.Nat.{ℕ, suc, _≤_, _<_, _+_}
 use native.Mathlib.Omega.{arith}
-use lib.Dec.{eqb, ltb}
+use lib.Dec.{eqb}
 use lib.ListN.{length}
 use borrow.Author.Tests.{lt-ltb}
 use Rattle.frame.specs.Pick.{pick}
@@ -15,7 +15,7 @@ use Rattle.link.specs.declared.hearing.Hearing.the-variants.{Hunting}
 use Rattle.link.specs.declared.hearing.Event.{Event}
 use Rattle.counting.specs.declared.Counts.{Counts}
 use Rattle.counting.specs.declared.Tally.{Tally}
-use Rattle.counting.specs.Counting.{column, oneMore, hit, added, countedByte, countedFrom, fresh}
+use Rattle.counting.specs.Counting.{column, oneMore, hit, countedByte, countedFrom, fresh}
 use Rattle.counting.specs.Exact.{events, behind, number, numbers}
 
 -- one column over events, from n on

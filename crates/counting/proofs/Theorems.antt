@@ -1,6 +1,6 @@
 -- What holds of counting over all inputs.
 -- Assumes nothing.
-use mathlib.Core.Path.{_≡_, refl, sym, _∙_}
+use mathlib.Core.Path.{_≡_, refl}
 use mathlib.Core.List.{List, [], _∷_, _++_}
 use Prim.Native.Nat.{ℕ, _+_, _≤_}
 use native.Mathlib.Omega.{arith}
@@ -8,12 +8,11 @@ use lib.ListN.{length}
 use Rattle.frame.proofs.Theorems.{fixed}
 use Rattle.link.specs.declared.hearing.Hearing.{Hearing}
 use Rattle.link.specs.declared.hearing.Hearing.the-variants.{Hunting}
-use Rattle.counting.specs.declared.Counts.{Counts}
 use Rattle.counting.specs.declared.Tally.{Tally}
 use Rattle.counting.specs.Counting.{countedFrom, fresh, openBytes}
 use Rattle.counting.specs.Exact.{events, behind, numbers}
 use Rattle.counting.proofs.Laws.{count-append}
-use Rattle.counting.proofs.Exact.{counted-exact}
+use Rattle.counting.proofs.Exact.{counted-exact, counted-behind}
 
 -- Section 12: each promise determines its answer.
 
@@ -33,6 +32,10 @@ pieces-are-whole = count-append
 -- Section 9 reads at most 16,777,216 bytes. Over these each count is the number of events of its column: no count meets the largest number.
 pub counts-exact : (bytes : List ℕ) → length bytes ≤ 16777216 → countedFrom fresh bytes .counts ≡ numbers (events Hunting bytes)
 counts-exact bytes h = counted-exact bytes (omega arith)
+
+-- Counting does not change what is heard.
+pub heard-the-same : (t : Tally) (bytes : List ℕ) → countedFrom t bytes .hearing ≡ behind (t .hearing) bytes
+heard-the-same = counted-behind
 
 -- The example of section 9: 06 01 03 00 07 FB 55 01 02.
 pub example : countedFrom fresh (6 ∷ 1 ∷ 3 ∷ 0 ∷ 7 ∷ 251 ∷ 85 ∷ 1 ∷ 2 ∷ [])

@@ -42,7 +42,7 @@ column TickHunting = 8
 column TickInside = 8
 column Aborted = 8
 
--- A count stays at the largest number that it can hold. No input that fits a memory takes a fresh one there (proofs/Exact).
+-- A count stays at the largest number that it can hold. No input below 2^64 bytes takes it there from 0 (proofs/Exact).
 abbrev pub oneMore : ℕ → ℕ
 oneMore n = pick (ltb n 18446744073709551615) (n + 1) n
 

@@ -201,7 +201,8 @@ fn count_bad_length(counts: Counts) -> Counts
     next
 }
 
-// At an 01: the whole frame in one stride, its body in one loop. A frame that the bytes cut short is left where it begins.
+// At an 01: the whole frame in one stride, its body in one loop that keeps nothing. A frame that the bytes cut short is left where
+// it begins, and goes byte by byte: a slice has at most one at each end.
 fn stride(counts: Counts, bytes: &[u8], i: usize) -> Stretch
     requires { ⌜ (i < length (now bytes)) × (getD (now bytes) i 0 ≡ 1) ⌝ }
     ensures { λ r. ⌜ Ahead (now (bytes .entry)) (hunting counts) i (hunting (r .counts)) (r .at) ⌝ }
