@@ -89,23 +89,43 @@ fn told_run(ran: Ran) -> Called {
     }
 }
 
-// Makes one call. The bytes are those of its line in the script.
+// The calls. The bytes are those of their lines in the script.
+fn send(link: Link, bytes: &[u8], line: &mut [u8], up: &mut [u8]) -> Called {
+    let kind = spelt_at(bytes, 0);
+    let command = spelt_at(bytes, 1);
+    told(link.send(kind, command, behind(bytes, 2), line, up))
+}
+
+fn session(link: Link, bytes: &[u8], line: &mut [u8], up: &mut [u8]) -> Called {
+    let command = spelt_at(bytes, 0);
+    told(link.session(command, behind(bytes, 1), line, up))
+}
+
+fn byte(link: Link, bytes: &[u8], line: &mut [u8], up: &mut [u8]) -> Called {
+    told(link.byte(spelt_at(bytes, 0), line, up))
+}
+
+fn run(link: Link, bytes: &[u8], line: &mut [u8], up: &mut [u8]) -> Called {
+    told_run(link.bytes(bytes, line, up))
+}
+
+fn tick(link: Link, line: &mut [u8], up: &mut [u8]) -> Called {
+    told(link.tick(line, up))
+}
+
+fn restart(link: Link, line: &mut [u8], up: &mut [u8]) -> Called {
+    told(link.restart(line, up))
+}
+
 fn call(verb: LinkVerb, link: Link, bytes: &[u8], line: &mut [u8], up: &mut [u8]) -> Called {
     match verb {
-        LinkVerb::Send => {
-            let kind = spelt_at(bytes, 0);
-            let command = spelt_at(bytes, 1);
-            told(link.send(kind, command, behind(bytes, 2), line, up))
-        }
-        LinkVerb::Session => {
-            let command = spelt_at(bytes, 0);
-            told(link.session(command, behind(bytes, 1), line, up))
-        }
-        LinkVerb::Byte => told(link.byte(spelt_at(bytes, 0), line, up)),
-        LinkVerb::Bytes => told_run(link.bytes(bytes, line, up)),
-        LinkVerb::Tick => told(link.tick(line, up)),
-        LinkVerb::Ticks => told(link.tick(line, up)),
-        LinkVerb::Restart => told(link.restart(line, up)),
+        LinkVerb::Send => send(link, bytes, line, up),
+        LinkVerb::Session => session(link, bytes, line, up),
+        LinkVerb::Byte => byte(link, bytes, line, up),
+        LinkVerb::Bytes => run(link, bytes, line, up),
+        LinkVerb::Tick => tick(link, line, up),
+        LinkVerb::Ticks => tick(link, line, up),
+        LinkVerb::Restart => restart(link, line, up),
     }
 }
 
@@ -241,6 +261,22 @@ fn tell(
     told
 }
 
+pub fn with_waiting(player: Player, waiting: usize) -> Player {
+    let mut next = player;
+    next.waiting = waiting;
+    next
+}
+
+// With the link that a call left, and the ticks accepted with it.
+fn with_call(player: Player, verb: LinkVerb, called: Called) -> Player {
+    let link = called.link;
+    let outcome = called.outcome;
+    let mut next = player;
+    next.link = link;
+    next.ticks = ticks_with(verb, outcome, player.ticks);
+    next
+}
+
 // One call with its line of output.
 fn play_once(
     verb: LinkVerb,
@@ -253,13 +289,9 @@ fn play_once(
     let link = player.link;
     let called = call(verb, link, bytes, line, up);
     let outcome = called.outcome;
-    let left = called.link;
-    let ticks = ticks_with(verb, outcome, player.ticks);
-    let mut next = player;
-    next.link = left;
-    next.ticks = ticks;
-    next.waiting = tell(verb, ticks, outcome, line, up, out, player.waiting);
-    next
+    let next = with_call(player, verb, called);
+    let waiting = tell(verb, next.ticks, outcome, line, up, out, next.waiting);
+    with_waiting(next, waiting)
 }
 
 // How often an order makes its call.

@@ -5,6 +5,7 @@ use crate::lent::fill;
 use crate::lent::within;
 use crate::link_calls::Player;
 use crate::link_calls::on_link;
+use crate::link_calls::with_waiting;
 use crate::printing::flush;
 use crate::printing::put;
 use crate::script::Order;
@@ -27,12 +28,6 @@ fn opened() -> Player {
         kept: 0,
         is_over: false,
     }
-}
-
-fn with_waiting(player: Player, waiting: usize) -> Player {
-    let mut next = player;
-    next.waiting = waiting;
-    next
 }
 
 fn with_rooms(player: Player, line: usize, up: usize) -> Player {
@@ -64,6 +59,20 @@ fn on_lent(
     )
 }
 
+// An order that needs no link.
+fn on_other(order: Order, bytes: &[u8], lent: &mut [u8], out: &mut [u8], waiting: usize) -> usize {
+    let verb = order.verb;
+    let numbers = order.numbers;
+    match verb {
+        Verb::Link(_) => waiting,
+        Verb::Frame(call) => on_frame(call, numbers[0] as usize, bytes, lent, out, waiting),
+        Verb::Body(call) => on_body(call, numbers, bytes, lent, out, waiting),
+        Verb::Room => waiting,
+        Verb::Blank => waiting,
+        Verb::Unknown => put(b"error\n", out, waiting),
+    }
+}
+
 // Carries an order out.
 fn carry(
     order: Order,
@@ -75,23 +84,14 @@ fn carry(
 ) -> Player {
     let verb = order.verb;
     let numbers = order.numbers;
-    match verb {
-        Verb::Link(call) => on_lent(call, numbers[0], bytes, player, line, up, out),
-        Verb::Frame(call) => {
-            let w = on_frame(call, numbers[0] as usize, bytes, line, out, player.waiting);
-            with_waiting(player, w)
-        }
-        Verb::Body(call) => {
-            let w = on_body(call, numbers, bytes, line, out, player.waiting);
-            with_waiting(player, w)
-        }
-        Verb::Room => with_rooms(player, numbers[0] as usize, numbers[1] as usize),
-        Verb::Blank => player,
-        Verb::Unknown => {
-            let w = put(b"error\n", out, player.waiting);
-            with_waiting(player, w)
-        }
+    if let Verb::Link(call) = verb {
+        return on_lent(call, numbers[0], bytes, player, line, up, out);
     }
+    if let Verb::Room = verb {
+        return with_rooms(player, numbers[0] as usize, numbers[1] as usize);
+    }
+    let waiting = on_other(order, bytes, line, out, player.waiting);
+    with_waiting(player, waiting)
 }
 
 // One line of the script, of n bytes.
