@@ -1,14 +1,11 @@
+-- `linkplay::play::on_part` is safe and ends. The invariant: the lent buffers keep their lengths.
+-- Assumes nothing.
 use borrow.Author.Needs.{needs}
-use Prim.Native.Nat.{_≤_, _-_, _<_, _^_}
+use Prim.Native.Nat.{_-_}
 use mathlib.Core.Path.{_≡_}
-use native.Mathlib.Omega.{arith}
 use lib.ListN.{length}
 use Rattle.linkplay.proofs.play.on_part.Statement.{statement}
 use Rattle.linkplay.proofs.play.on_part.Tie as tie
-use Rattle.linkplay.proofs.play.on_part.Reads as reads
-use Rattle.linkplay.proofs.play.on_part.Lts as lts
-use Rattle.linkplay.proofs.play.keep.Reads as keep-reads
-use Rattle.linkplay.proofs.play.on_line.Reads as on-line-reads
 
 abbrev Inv-loop : tie.InvT-loop
 Inv-loop part text₀ line₀ up₀ out₀ next₀ kept₀ i₀ text line up out next kept i = (length text ≡ length text₀) × (length line ≡ length line₀) × (length up ≡ length up₀) × (length out ≡ length out₀)
@@ -16,59 +13,45 @@ Inv-loop part text₀ line₀ up₀ out₀ next₀ kept₀ i₀ text line up out
 abbrev μ-loop : tie.MeasureT-loop
 μ-loop part text₀ line₀ up₀ out₀ next₀ kept₀ i₀ text line up out next kept i = length part - i
 
--- src/play.rt:132:5
 loop-holds : tie.Need-loop-holds Inv-loop μ-loop
 loop-holds c = search needs
 
--- src/play.rt:133:17
 shared-slice-read-b : tie.Need-shared-slice-read-b Inv-loop μ-loop
 shared-slice-read-b c = search needs
 
--- src/play.rt:134:9
 add-i : tie.Need-add-i Inv-loop μ-loop
 add-i c = search needs
 
--- src/play.rt:136:13
 on-line-requires : tie.Need-on-line-requires Inv-loop μ-loop
 on-line-requires c κs = search needs
 
--- src/play.rt:132:5
 loop-less : tie.Need-loop-less Inv-loop μ-loop
 loop-less c = search needs
 
--- src/play.rt:132:5
 loop-again : tie.Need-loop-again Inv-loop μ-loop
 loop-again c = search needs
 
--- src/play.rt:139:13
 keep-requires : tie.Need-keep-requires Inv-loop μ-loop
 keep-requires c κs = search needs
 
--- src/play.rt:132:5
 loop-less-2 : tie.Need-loop-less-2 Inv-loop μ-loop
 loop-less-2 c = search needs
 
--- src/play.rt:132:5
 loop-again-2 : tie.Need-loop-again-2 Inv-loop μ-loop
 loop-again-2 c = search needs
 
--- src/play.rt:121:1
 same-length : tie.Need-same-length Inv-loop μ-loop
 same-length c = search needs
 
--- src/play.rt:121:1
 same-length-2 : tie.Need-same-length-2 Inv-loop μ-loop
 same-length-2 c = search needs
 
--- src/play.rt:121:1
 same-length-3 : tie.Need-same-length-3 Inv-loop μ-loop
 same-length-3 c = search needs
 
--- src/play.rt:121:1
 same-length-4 : tie.Need-same-length-4 Inv-loop μ-loop
 same-length-4 c = search needs
 
--- src/play.rt:121:1
 returns : tie.Need-returns Inv-loop μ-loop
 returns c = search needs
 
