@@ -10,6 +10,7 @@ use crate::script::behind;
 use crate::script::spelt_at;
 use crate::verb::LinkVerb;
 use crate::words::is_nothing;
+use crate::words::put_name;
 use crate::words::put_parts;
 use frame::Refusal;
 use link::Answer;
@@ -29,226 +30,279 @@ pub struct Player {
     pub up: usize,
     // How many bytes wait in the output buffer.
     pub waiting: usize,
+    // How many bytes are kept of a line of the script that has not ended yet.
+    pub kept: usize,
+    pub is_over: bool,
 }
 
-// Whether a byte of the two lent buffers beyond those reported was written. They are as before the call then.
-fn restored(line: &mut [u8], up: &mut [u8], n: usize, k: usize) -> bool {
-    let spilled = is_spilled(line, n);
-    let also = is_spilled(up, k);
-    restore(line, n);
-    restore(up, k);
-    spilled || also
+// What a call answered.
+enum Outcome {
+    Refused(Refusal),
+    Done(Report),
+    // A run of bytes, with how many it took.
+    Took(Report, usize),
 }
 
-// The name of the call, and when it was.
-fn put_call(name: &[u8], ticks: u64, out: &mut [u8], waiting: usize) -> usize {
-    let a = put(name, out, waiting);
-    let b = put(b" at=", out, a);
-    put_number(ticks, out, b)
+// A call's outcome, and the link that it left.
+struct Called {
+    pub link: Link,
+    pub outcome: Outcome,
 }
 
-fn put_refusal(
-    refusal: Refusal,
-    line: &mut [u8],
-    up: &mut [u8],
-    out: &mut [u8],
-    waiting: usize,
-) -> usize {
-    let spilled = restored(line, up, 0, 0);
-    let w = put_refused(refusal, out, waiting);
-    put_end(spilled, out, w)
+// How many bytes a call reports for the line and handed up.
+struct Counts {
+    pub line: usize,
+    pub up: usize,
 }
 
-fn put_report(
-    report: Report,
-    line: &mut [u8],
-    up: &mut [u8],
-    out: &mut [u8],
-    waiting: usize,
-) -> usize {
-    let n = report.line as usize;
-    let k = report.up as usize;
-    let a = put_parts(report, out, waiting);
-    let b = put(b" line=", out, a);
-    let c = put_front(line, n, out, b);
-    let d = put(b" up=", out, c);
-    let e = put_front(up, k, out, d);
-    let spilled = restored(line, up, n, k);
-    put_end(spilled, out, e)
-}
-
-fn put_answer(
-    answer: Answer,
-    line: &mut [u8],
-    up: &mut [u8],
-    out: &mut [u8],
-    waiting: usize,
-) -> usize {
+fn outcome_of(answer: Answer) -> Outcome {
     match answer {
-        Answer::Refused(refusal) => put_refusal(refusal, line, up, out, waiting),
-        Answer::Done(report) => put_report(report, line, up, out, waiting),
+        Answer::Refused(refusal) => Outcome::Refused(refusal),
+        Answer::Done(report) => Outcome::Done(report),
     }
 }
 
-fn put_run(
-    answer: RunAnswer,
-    line: &mut [u8],
-    up: &mut [u8],
-    out: &mut [u8],
-    waiting: usize,
-) -> usize {
+fn outcome_of_run(answer: RunAnswer) -> Outcome {
     match answer {
-        RunAnswer::Refused(refusal) => put_refusal(refusal, line, up, out, waiting),
-        RunAnswer::Done(report, taken) => {
-            let a = put(b" taken=", out, waiting);
-            let b = put_number(taken as u64, out, a);
-            put_report(report, line, up, out, b)
+        RunAnswer::Refused(refusal) => Outcome::Refused(refusal),
+        RunAnswer::Done(report, taken) => Outcome::Took(report, taken),
+    }
+}
+
+fn told(answered: Answered) -> Called {
+    let link = answered.link;
+    let answer = answered.answer;
+    let outcome = outcome_of(answer);
+    Called {
+        link: link,
+        outcome: outcome,
+    }
+}
+
+fn told_run(ran: Ran) -> Called {
+    let link = ran.link;
+    let answer = ran.answer;
+    let outcome = outcome_of_run(answer);
+    Called {
+        link: link,
+        outcome: outcome,
+    }
+}
+
+// The calls. The bytes are those of their lines in the script.
+fn send(link: Link, bytes: &[u8], line: &mut [u8], up: &mut [u8]) -> Called {
+    let kind = spelt_at(bytes, 0);
+    let command = spelt_at(bytes, 1);
+    told(link.send(kind, command, behind(bytes, 2), line, up))
+}
+
+fn session(link: Link, bytes: &[u8], line: &mut [u8], up: &mut [u8]) -> Called {
+    let command = spelt_at(bytes, 0);
+    told(link.session(command, behind(bytes, 1), line, up))
+}
+
+fn byte(link: Link, bytes: &[u8], line: &mut [u8], up: &mut [u8]) -> Called {
+    told(link.byte(spelt_at(bytes, 0), line, up))
+}
+
+fn run(link: Link, bytes: &[u8], line: &mut [u8], up: &mut [u8]) -> Called {
+    told_run(link.bytes(bytes, line, up))
+}
+
+fn tick(link: Link, line: &mut [u8], up: &mut [u8]) -> Called {
+    told(link.tick(line, up))
+}
+
+fn restart(link: Link, line: &mut [u8], up: &mut [u8]) -> Called {
+    told(link.restart(line, up))
+}
+
+fn call(verb: LinkVerb, link: Link, bytes: &[u8], line: &mut [u8], up: &mut [u8]) -> Called {
+    match verb {
+        LinkVerb::Send => send(link, bytes, line, up),
+        LinkVerb::Session => session(link, bytes, line, up),
+        LinkVerb::Byte => byte(link, bytes, line, up),
+        LinkVerb::Bytes => run(link, bytes, line, up),
+        LinkVerb::Tick => tick(link, line, up),
+        LinkVerb::Ticks => tick(link, line, up),
+        LinkVerb::Restart => restart(link, line, up),
+    }
+}
+
+fn counted(report: Report) -> Counts {
+    Counts {
+        line: report.line as usize,
+        up: report.up as usize,
+    }
+}
+
+fn counts_of(outcome: Outcome) -> Counts {
+    match outcome {
+        Outcome::Refused(_) => Counts { line: 0, up: 0 },
+        Outcome::Done(report) => counted(report),
+        Outcome::Took(report, _) => counted(report),
+    }
+}
+
+fn is_quiet(outcome: Outcome) -> bool {
+    match outcome {
+        Outcome::Refused(_) => false,
+        Outcome::Done(report) => is_nothing(report),
+        Outcome::Took(_, _) => false,
+    }
+}
+
+fn is_tick(verb: LinkVerb) -> bool {
+    match verb {
+        LinkVerb::Send => false,
+        LinkVerb::Session => false,
+        LinkVerb::Byte => false,
+        LinkVerb::Bytes => false,
+        LinkVerb::Tick => true,
+        LinkVerb::Ticks => true,
+        LinkVerb::Restart => false,
+    }
+}
+
+// The ticks accepted with this call. No play lasts until their count goes round.
+fn ticks_with(verb: LinkVerb, outcome: Outcome, ticks: u64) -> u64 {
+    if !is_tick(verb) {
+        return ticks;
+    }
+    if let Outcome::Refused(_) = outcome {
+        return ticks;
+    }
+    std::num::wrapping_add_u64(ticks, 1)
+}
+
+// Whether a byte beyond those reported was written.
+fn is_spill(counts: Counts, line: &[u8], up: &[u8]) -> bool {
+    if is_spilled(line, counts.line) {
+        return true;
+    }
+    is_spilled(up, counts.up)
+}
+
+// Whether a call has a line of output: of many ticks only one that has something to tell.
+fn is_told(verb: LinkVerb, outcome: Outcome, spilled: bool) -> bool {
+    let LinkVerb::Ticks = verb else {
+        return true;
+    };
+    if spilled {
+        return true;
+    }
+    !is_quiet(outcome)
+}
+
+fn put_report(report: Report, line: &[u8], up: &[u8], out: &mut [u8], waiting: usize) -> usize {
+    let a = put_parts(report, out, waiting);
+    let b = put(b" line=", out, a);
+    let c = put_front(line, report.line as usize, out, b);
+    let d = put(b" up=", out, c);
+    put_front(up, report.up as usize, out, d)
+}
+
+fn put_taken(taken: usize, out: &mut [u8], waiting: usize) -> usize {
+    let w = put(b" taken=", out, waiting);
+    put_number(taken as u64, out, w)
+}
+
+fn put_outcome(outcome: Outcome, line: &[u8], up: &[u8], out: &mut [u8], waiting: usize) -> usize {
+    match outcome {
+        Outcome::Refused(refusal) => put_refused(refusal, out, waiting),
+        Outcome::Done(report) => put_report(report, line, up, out, waiting),
+        Outcome::Took(report, taken) => {
+            let w = put_taken(taken, out, waiting);
+            put_report(report, line, up, out, w)
         }
     }
 }
 
-// The line of a call that gives no ticks, and the link that it left.
-fn called(
+// The name of the call, and when it was.
+fn put_call(verb: LinkVerb, ticks: u64, out: &mut [u8], waiting: usize) -> usize {
+    let a = put_name(verb, out, waiting);
+    let b = put(b" at=", out, a);
+    put_number(ticks, out, b)
+}
+
+fn put_line(
+    verb: LinkVerb,
+    ticks: u64,
+    outcome: Outcome,
+    spilled: bool,
+    line: &[u8],
+    up: &[u8],
+    out: &mut [u8],
+    waiting: usize,
+) -> usize {
+    let a = put_call(verb, ticks, out, waiting);
+    let b = put_outcome(outcome, line, up, out, a);
+    put_end(spilled, out, b)
+}
+
+// The call's line of output, where it has one. The lent buffers are as before the call again.
+fn tell(
+    verb: LinkVerb,
+    ticks: u64,
+    outcome: Outcome,
+    line: &mut [u8],
+    up: &mut [u8],
+    out: &mut [u8],
+    waiting: usize,
+) -> usize {
+    let counts = counts_of(outcome);
+    let spilled = is_spill(counts, line, up);
+    if !is_told(verb, outcome, spilled) {
+        return waiting;
+    }
+    let told = put_line(verb, ticks, outcome, spilled, line, up, out, waiting);
+    restore(line, counts.line);
+    restore(up, counts.up);
+    told
+}
+
+pub fn with_waiting(player: Player, waiting: usize) -> Player {
+    let mut next = player;
+    next.waiting = waiting;
+    next
+}
+
+// With the link that a call left, and the ticks accepted with it.
+fn with_call(player: Player, verb: LinkVerb, called: Called) -> Player {
+    let link = called.link;
+    let outcome = called.outcome;
+    let mut next = player;
+    next.link = link;
+    next.ticks = ticks_with(verb, outcome, player.ticks);
+    next
+}
+
+// One call with its line of output.
+fn play_once(
+    verb: LinkVerb,
+    bytes: &[u8],
     player: Player,
-    name: &[u8],
-    answered: Answered,
     line: &mut [u8],
     up: &mut [u8],
     out: &mut [u8],
 ) -> Player {
-    let link = answered.link;
-    let answer = answered.answer;
-    let w = put_call(name, player.ticks, out, player.waiting);
-    Player {
-        link: link,
-        ticks: player.ticks,
-        line: player.line,
-        up: player.up,
-        waiting: put_answer(answer, line, up, out, w),
-    }
-}
-
-fn ran(player: Player, ran: Ran, line: &mut [u8], up: &mut [u8], out: &mut [u8]) -> Player {
-    let link = ran.link;
-    let answer = ran.answer;
-    let w = put_call(b"bytes", player.ticks, out, player.waiting);
-    Player {
-        link: link,
-        ticks: player.ticks,
-        line: player.line,
-        up: player.up,
-        waiting: put_run(answer, line, up, out, w),
-    }
-}
-
-// Whether the tick was accepted.
-fn is_accepted(answer: Answer) -> bool {
-    match answer {
-        Answer::Refused(_) => false,
-        Answer::Done(_) => true,
-    }
-}
-
-// Whether the answer says nothing.
-fn is_quiet(answer: Answer) -> bool {
-    match answer {
-        Answer::Refused(_) => false,
-        Answer::Done(report) => is_nothing(report),
-    }
-}
-
-// Whether a tick among many has something to tell.
-fn is_told(answer: Answer, line: &[u8], up: &[u8]) -> bool {
-    if !is_quiet(answer) {
-        return true;
-    }
-    if is_spilled(line, 0) {
-        return true;
-    }
-    is_spilled(up, 0)
-}
-
-// A tick with the count of ticks behind it: no play lasts until it goes round.
-fn ticked(player: Player, answered: Answered) -> Player {
-    let link = answered.link;
-    let answer = answered.answer;
-    let mut ticks = player.ticks;
-    if is_accepted(answer) {
-        ticks = std::num::wrapping_add_u64(ticks, 1);
-    }
-    Player {
-        link: link,
-        ticks: ticks,
-        line: player.line,
-        up: player.up,
-        waiting: player.waiting,
-    }
-}
-
-// One tick.
-fn tick(player: Player, line: &mut [u8], up: &mut [u8], out: &mut [u8]) -> Player {
     let link = player.link;
-    let answered = link.tick(line, up);
-    let next = ticked(player, answered);
-    called(next, b"tick", answered, line, up, out)
+    let called = call(verb, link, bytes, line, up);
+    let outcome = called.outcome;
+    let next = with_call(player, verb, called);
+    let waiting = tell(verb, next.ticks, outcome, line, up, out, next.waiting);
+    with_waiting(next, waiting)
 }
 
-// One of many ticks, which has a line only where it has something to tell.
-fn quiet_tick(player: Player, line: &mut [u8], up: &mut [u8], out: &mut [u8]) -> Player {
-    let link = player.link;
-    let answered = link.tick(line, up);
-    let next = ticked(player, answered);
-    let answer = answered.answer;
-    if is_told(answer, line, up) {
-        return called(next, b"tick", answered, line, up, out);
-    }
-    next
+// How often an order makes its call.
+fn times_of(verb: LinkVerb, n: u32) -> u32 {
+    let LinkVerb::Ticks = verb else {
+        return 1;
+    };
+    n
 }
 
-fn ticks(player: Player, n: u32, line: &mut [u8], up: &mut [u8], out: &mut [u8]) -> Player {
-    let mut next = player;
-    let mut i = 0;
-    while i < n {
-        next = quiet_tick(next, line, up, out);
-        i += 1;
-    }
-    next
-}
-
-fn send(player: Player, bytes: &[u8], line: &mut [u8], up: &mut [u8], out: &mut [u8]) -> Player {
-    let link = player.link;
-    let kind = spelt_at(bytes, 0);
-    let command = spelt_at(bytes, 1);
-    let answered = link.send(kind, command, behind(bytes, 2), line, up);
-    called(player, b"send", answered, line, up, out)
-}
-
-fn session(player: Player, bytes: &[u8], line: &mut [u8], up: &mut [u8], out: &mut [u8]) -> Player {
-    let link = player.link;
-    let command = spelt_at(bytes, 0);
-    let answered = link.session(command, behind(bytes, 1), line, up);
-    called(player, b"session", answered, line, up, out)
-}
-
-fn byte(player: Player, bytes: &[u8], line: &mut [u8], up: &mut [u8], out: &mut [u8]) -> Player {
-    let link = player.link;
-    let answered = link.byte(spelt_at(bytes, 0), line, up);
-    called(player, b"byte", answered, line, up, out)
-}
-
-fn run(player: Player, bytes: &[u8], line: &mut [u8], up: &mut [u8], out: &mut [u8]) -> Player {
-    let link = player.link;
-    let answered = link.bytes(bytes, line, up);
-    ran(player, answered, line, up, out)
-}
-
-fn restart(player: Player, line: &mut [u8], up: &mut [u8], out: &mut [u8]) -> Player {
-    let link = player.link;
-    let answered = link.restart(line, up);
-    called(player, b"restart", answered, line, up, out)
-}
-
-// The call on the link that an order asks for.
+// The calls on the link that an order asks for.
 pub fn on_link(
     verb: LinkVerb,
     n: u32,
@@ -258,13 +312,12 @@ pub fn on_link(
     up: &mut [u8],
     out: &mut [u8],
 ) -> Player {
-    match verb {
-        LinkVerb::Send => send(player, bytes, line, up, out),
-        LinkVerb::Session => session(player, bytes, line, up, out),
-        LinkVerb::Byte => byte(player, bytes, line, up, out),
-        LinkVerb::Bytes => run(player, bytes, line, up, out),
-        LinkVerb::Tick => tick(player, line, up, out),
-        LinkVerb::Ticks => ticks(player, n, line, up, out),
-        LinkVerb::Restart => restart(player, line, up, out),
+    let times = times_of(verb, n);
+    let mut next = player;
+    let mut i = 0;
+    while i < times {
+        next = play_once(verb, bytes, next, line, up, out);
+        i += 1;
     }
+    next
 }

@@ -5,6 +5,7 @@ use crate::lent::fill;
 use crate::lent::within;
 use crate::link_calls::Player;
 use crate::link_calls::on_link;
+use crate::link_calls::with_waiting;
 use crate::printing::flush;
 use crate::printing::put;
 use crate::script::Order;
@@ -24,13 +25,9 @@ fn opened() -> Player {
         line: 258,
         up: 254,
         waiting: 0,
+        kept: 0,
+        is_over: false,
     }
-}
-
-fn with_waiting(player: Player, waiting: usize) -> Player {
-    let mut next = player;
-    next.waiting = waiting;
-    next
 }
 
 fn with_rooms(player: Player, line: usize, up: usize) -> Player {
@@ -62,6 +59,20 @@ fn on_lent(
     )
 }
 
+// An order that needs no link.
+fn on_other(order: Order, bytes: &[u8], lent: &mut [u8], out: &mut [u8], waiting: usize) -> usize {
+    let verb = order.verb;
+    let numbers = order.numbers;
+    match verb {
+        Verb::Link(_) => waiting,
+        Verb::Frame(call) => on_frame(call, numbers[0] as usize, bytes, lent, out, waiting),
+        Verb::Body(call) => on_body(call, numbers, bytes, lent, out, waiting),
+        Verb::Room => waiting,
+        Verb::Blank => waiting,
+        Verb::Unknown => put(b"error\n", out, waiting),
+    }
+}
+
 // Carries an order out.
 fn carry(
     order: Order,
@@ -73,45 +84,18 @@ fn carry(
 ) -> Player {
     let verb = order.verb;
     let numbers = order.numbers;
-    match verb {
-        Verb::Link(call) => on_lent(call, numbers[0], bytes, player, line, up, out),
-        Verb::Frame(call) => {
-            let w = on_frame(call, numbers[0] as usize, bytes, line, out, player.waiting);
-            with_waiting(player, w)
-        }
-        Verb::Body(call) => {
-            let w = on_body(call, numbers, bytes, line, out, player.waiting);
-            with_waiting(player, w)
-        }
-        Verb::Room => with_rooms(player, numbers[0] as usize, numbers[1] as usize),
-        Verb::Unknown => {
-            let w = put(b"error\n", out, player.waiting);
-            with_waiting(player, w)
-        }
+    if let Verb::Link(call) = verb {
+        return on_lent(call, numbers[0], bytes, player, line, up, out);
     }
+    if let Verb::Room = verb {
+        return with_rooms(player, numbers[0] as usize, numbers[1] as usize);
+    }
+    let waiting = on_other(order, bytes, line, out, player.waiting);
+    with_waiting(player, waiting)
 }
 
-// One line of the script: passed over where it is empty or a comment.
+// One line of the script, of n bytes.
 fn on_line(
-    text: &mut [u8],
-    player: Player,
-    line: &mut [u8],
-    up: &mut [u8],
-    out: &mut [u8],
-) -> Player {
-    if text.len() == 0 {
-        return player;
-    }
-    if text[0] == b'#' {
-        return player;
-    }
-    let order = order_of(text);
-    let n = within(order.count, text);
-    carry(order, &text[0..n], player, line, up, out)
-}
-
-// The same of the first n bytes that were kept; a line that is too long is an error.
-fn on_kept(
     text: &mut [u8],
     n: usize,
     player: Player,
@@ -119,14 +103,12 @@ fn on_kept(
     up: &mut [u8],
     out: &mut [u8],
 ) -> Player {
-    if text.len() < n {
-        let w = put(b"error\n", out, player.waiting);
-        return with_waiting(player, w);
-    }
-    on_line(&mut text[0..n], player, line, up, out)
+    let order = order_of(text, n);
+    let count = within(order.count, text);
+    carry(order, &text[0..count], player, line, up, out)
 }
 
-// Keeps a byte of a line behind the first n, and answers how many are kept.
+// Keeps a byte of a line behind the first n, and answers how many the line has then.
 fn keep(b: u8, text: &mut [u8], n: usize) -> usize {
     if n < text.len() {
         text[n] = b;
@@ -135,65 +117,54 @@ fn keep(b: u8, text: &mut [u8], n: usize) -> usize {
     TOO_LONG
 }
 
-// A player, how many bytes are kept of a line that has not ended yet, and whether the script has ended.
-struct Going {
-    pub player: Player,
-    pub kept: usize,
-    pub is_over: bool,
-}
-
 // A part of the script, which may begin and end inside a line.
 fn on_part(
     part: &[u8],
-    going: Going,
+    player: Player,
     text: &mut [u8],
     line: &mut [u8],
     up: &mut [u8],
     out: &mut [u8],
-) -> Going {
-    let mut player = going.player;
-    let mut kept = going.kept;
+) -> Player {
+    let mut next = player;
+    let mut kept = player.kept;
     let mut i = 0;
     while i < part.len() {
         let b = part[i];
         i += 1;
         if b == b'\n' {
-            player = on_kept(text, kept, player, line, up, out);
+            next = on_line(text, kept, next, line, up, out);
             kept = 0;
         } else {
             kept = keep(b, text, kept);
         }
     }
-    Going {
-        player: player,
-        kept: kept,
-        is_over: false,
-    }
+    next.kept = kept;
+    next
 }
 
 // Reads on in the script, and plays what came.
 fn on_read(
-    going: Going,
+    player: Player,
     script: &mut [u8],
     text: &mut [u8],
     line: &mut [u8],
     up: &mut [u8],
     out: &mut [u8],
-) -> Going {
+) -> Player {
     let got = libc::read(STDIN_FILENO, script);
     let n = io::count(got, script);
     if n == 0 {
-        let mut over = going;
+        let mut over = player;
         over.is_over = true;
         return over;
     }
-    on_part(&script[0..n], going, text, line, up, out)
+    on_part(&script[0..n], player, text, line, up, out)
 }
 
 // The last line, which may have no newline, and what still waits in the output buffer.
-fn finish(going: Going, text: &mut [u8], line: &mut [u8], up: &mut [u8], out: &mut [u8]) {
-    let player = going.player;
-    let last = on_kept(text, going.kept, player, line, up, out);
+fn finish(player: Player, text: &mut [u8], line: &mut [u8], up: &mut [u8], out: &mut [u8]) {
+    let last = on_line(text, player.kept, player, line, up, out);
     flush(out, last.waiting);
 }
 
@@ -201,15 +172,11 @@ fn finish(going: Going, text: &mut [u8], line: &mut [u8], up: &mut [u8], out: &m
 pub fn play(script: &mut [u8], text: &mut [u8], line: &mut [u8], up: &mut [u8], out: &mut [u8]) {
     fill(line);
     fill(up);
-    let mut going = Going {
-        player: opened(),
-        kept: 0,
-        is_over: false,
-    };
+    let mut player = opened();
     let mut turns = u64::MAX;
-    while turns > 0 && !going.is_over {
-        going = on_read(going, script, text, line, up, out);
+    while turns > 0 && !player.is_over {
+        player = on_read(player, script, text, line, up, out);
         turns -= 1;
     }
-    finish(going, text, line, up, out);
+    finish(player, text, line, up, out);
 }

@@ -189,9 +189,9 @@ fn spell(text: &mut [u8], from: usize) -> Bytes {
     Bytes::Count(n)
 }
 
-fn unknown() -> Order {
+fn wordless(verb: Verb) -> Order {
     Order {
-        verb: Verb::Unknown,
+        verb: verb,
         numbers: [0; 3],
         count: 0,
     }
@@ -202,13 +202,13 @@ fn with_bytes(verb: Verb, numbers: Numbers, text: &mut [u8], least: usize, most:
     let values = numbers.values;
     let found = spell(text, numbers.next);
     let Bytes::Count(count) = found else {
-        return unknown();
+        return wordless(Verb::Unknown);
     };
     if count < least {
-        return unknown();
+        return wordless(Verb::Unknown);
     }
     if most < count {
-        return unknown();
+        return wordless(Verb::Unknown);
     }
     Order {
         verb: verb,
@@ -217,17 +217,30 @@ fn with_bytes(verb: Verb, numbers: Numbers, text: &mut [u8], least: usize, most:
     }
 }
 
-// What a line asks for.
-pub fn order_of(text: &mut [u8]) -> Order {
+fn order_in(text: &mut [u8]) -> Order {
     let end = word_end(text);
     let verb = verb_of(&text[0..end]);
     let shape = shape_of(verb);
     let sizes = with_more(no_numbers(end), text, shape.sizes, MOST_SIZE);
     let numbers = with_more(sizes, text, shape.numbers, MOST_NUMBER);
     if numbers.is_wrong {
-        return unknown();
+        return wordless(Verb::Unknown);
     }
     with_bytes(verb, numbers, text, shape.least, shape.most)
+}
+
+// What a line of n bytes asks for, of which the text has as many as it has room for.
+pub fn order_of(text: &mut [u8], n: usize) -> Order {
+    if text.len() < n {
+        return wordless(Verb::Unknown);
+    }
+    if n == 0 {
+        return wordless(Verb::Blank);
+    }
+    if text[0] == b'#' {
+        return wordless(Verb::Blank);
+    }
+    order_in(&mut text[0..n])
 }
 
 // The byte of an order at a place, 0 where there is none.

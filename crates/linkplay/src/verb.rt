@@ -31,6 +31,8 @@ pub enum Verb {
     Frame(FrameVerb),
     Body(BodyVerb),
     Room,
+    // An empty line or a comment.
+    Blank,
     Unknown,
 }
 
@@ -185,6 +187,7 @@ pub fn shape_of(verb: Verb) -> Shape {
         Verb::Frame(on_frame) => frame_shape(on_frame),
         Verb::Body(on_body) => body_shape(on_body),
         Verb::Room => numbers(2, 0),
+        Verb::Blank => bytes(0, MANY),
         Verb::Unknown => bytes(0, MANY),
     }
 }

@@ -1,11 +1,25 @@
-// The words of a report (linkplay.md, section 7 of document 01).
+// The names of calls and the words of a report (section 7 of document 01).
 use crate::printing::put;
 use crate::printing::put_number;
+use crate::verb::LinkVerb;
 use link::Reception;
 use link::Report;
 use link::Reset;
 use link::Sending;
 use link::Session;
+
+// A call's name. One of many ticks is a tick.
+pub fn put_name(verb: LinkVerb, out: &mut [u8], waiting: usize) -> usize {
+    match verb {
+        LinkVerb::Send => put(b"send", out, waiting),
+        LinkVerb::Session => put(b"session", out, waiting),
+        LinkVerb::Byte => put(b"byte", out, waiting),
+        LinkVerb::Bytes => put(b"bytes", out, waiting),
+        LinkVerb::Tick => put(b"tick", out, waiting),
+        LinkVerb::Ticks => put(b"tick", out, waiting),
+        LinkVerb::Restart => put(b"restart", out, waiting),
+    }
+}
 
 // A word with its number.
 fn put_counted(word: &[u8], n: u64, out: &mut [u8], waiting: usize) -> usize {

@@ -8,10 +8,10 @@ use Rattle.linkplay.proofs.play.on_part.Statement.{statement}
 use Rattle.linkplay.proofs.play.on_part.Tie as tie
 
 abbrev Inv-loop : tie.InvT-loop
-Inv-loop part text₀ line₀ up₀ out₀ player₀ kept₀ i₀ text line up out player kept i = (length text ≡ length text₀) × (length line ≡ length line₀) × (length up ≡ length up₀) × (length out ≡ length out₀)
+Inv-loop part text₀ line₀ up₀ out₀ next₀ kept₀ i₀ text line up out next kept i = (length text ≡ length text₀) × (length line ≡ length line₀) × (length up ≡ length up₀) × (length out ≡ length out₀)
 
 abbrev μ-loop : tie.MeasureT-loop
-μ-loop part text₀ line₀ up₀ out₀ player₀ kept₀ i₀ text line up out player kept i = length part - i
+μ-loop part text₀ line₀ up₀ out₀ next₀ kept₀ i₀ text line up out next kept i = length part - i
 
 loop-holds : tie.Need-loop-holds Inv-loop μ-loop
 loop-holds c = search needs
@@ -22,8 +22,8 @@ shared-slice-read-b c = search needs
 add-i : tie.Need-add-i Inv-loop μ-loop
 add-i c = search needs
 
-on-kept-requires : tie.Need-on-kept-requires Inv-loop μ-loop
-on-kept-requires c κs = search needs
+on-line-requires : tie.Need-on-line-requires Inv-loop μ-loop
+on-line-requires c κs = search needs
 
 loop-less : tie.Need-loop-less Inv-loop μ-loop
 loop-less c = search needs
@@ -64,7 +64,7 @@ on-part-spec =
     loop-holds
     shared-slice-read-b
     add-i
-    on-kept-requires
+    on-line-requires
     loop-less
     loop-again
     keep-requires

@@ -7,10 +7,10 @@ use Rattle.linkplay.proofs.play.play.Statement.{statement}
 use Rattle.linkplay.proofs.play.play.Tie as tie
 
 abbrev Inv-loop : tie.InvT-loop
-Inv-loop script₀ text₀ line₀ up₀ out₀ going₀ turns₀ script text line up out going turns = (length script ≡ length script₀) × (length text ≡ length text₀) × (length line ≡ length line₀) × (length up ≡ length up₀) × (length out ≡ length out₀)
+Inv-loop script₀ text₀ line₀ up₀ out₀ player₀ turns₀ script text line up out player turns = (length script ≡ length script₀) × (length text ≡ length text₀) × (length line ≡ length line₀) × (length up ≡ length up₀) × (length out ≡ length out₀)
 
 abbrev μ-loop : tie.MeasureT-loop
-μ-loop script₀ text₀ line₀ up₀ out₀ going₀ turns₀ script text line up out going turns = turns
+μ-loop script₀ text₀ line₀ up₀ out₀ player₀ turns₀ script text line up out player turns = turns
 
 fill-requires : tie.Need-fill-requires Inv-loop μ-loop
 fill-requires c κs = search needs

@@ -1,23 +1,26 @@
--- `linkplay::link_calls::ticks` is safe and ends. The invariant: the lent buffers keep their lengths.
+-- `linkplay::link_calls::on_link` is safe and ends. The invariant: the lent buffers keep their lengths.
 -- Assumes nothing.
 use borrow.Author.Needs.{needs}
 use Prim.Native.Nat.{_-_}
 use mathlib.Core.Path.{_≡_}
 use lib.ListN.{length}
-use Rattle.linkplay.proofs.link_calls.ticks.Statement.{statement}
-use Rattle.linkplay.proofs.link_calls.ticks.Tie as tie
+use Rattle.linkplay.proofs.link_calls.on_link.Statement.{statement}
+use Rattle.linkplay.proofs.link_calls.on_link.Tie as tie
 
 abbrev Inv-loop : tie.InvT-loop
-Inv-loop n line₀ up₀ out₀ next₀ i₀ line up out next i = (length line ≡ length line₀) × (length up ≡ length up₀) × (length out ≡ length out₀)
+Inv-loop verb n bytes line₀ up₀ out₀ times next₀ i₀ line up out next i = (length line ≡ length line₀) × (length up ≡ length up₀) × (length out ≡ length out₀)
 
 abbrev μ-loop : tie.MeasureT-loop
-μ-loop n line₀ up₀ out₀ next₀ i₀ line up out next i = n - i
+μ-loop verb n bytes line₀ up₀ out₀ times next₀ i₀ line up out next i = times - i
+
+times-of-requires : tie.Need-times-of-requires Inv-loop μ-loop
+times-of-requires c κs = search needs
 
 loop-holds : tie.Need-loop-holds Inv-loop μ-loop
 loop-holds c = search needs
 
-quiet-tick-requires : tie.Need-quiet-tick-requires Inv-loop μ-loop
-quiet-tick-requires c κs = search needs
+play-once-requires : tie.Need-play-once-requires Inv-loop μ-loop
+play-once-requires c κs = search needs
 
 add-i : tie.Need-add-i Inv-loop μ-loop
 add-i c = search needs
@@ -40,14 +43,15 @@ same-length-3 c = search needs
 returns : tie.Need-returns Inv-loop μ-loop
 returns c = search needs
 
-pub ticks-spec : {M : Type 1} → statement M
-ticks-spec =
+pub on-link-spec : {M : Type 1} → statement M
+on-link-spec =
     tie.close
     (tie.spec
     Inv-loop
     μ-loop
+    times-of-requires
     loop-holds
-    quiet-tick-requires
+    play-once-requires
     add-i
     loop-less
     loop-again
