@@ -1,0 +1,99 @@
+//! The second program as it is, driven as `crates/exports` drives the proved code.
+
+use crate::numbers::{mix, refused, report};
+use reference::frame;
+use reference::linecount;
+use reference::link::Link;
+
+#[inline(never)]
+pub fn build(kind: u8, command: u8, parameters: &[u8], lent: &mut [u8]) -> u64 {
+    match frame::build(kind, command, parameters, lent) {
+        Ok(size) => size as u64,
+        Err(refusal) => refused(refusal),
+    }
+}
+
+#[inline(never)]
+pub fn read(bytes: &[u8]) -> u64 {
+    match frame::read(bytes) {
+        Ok(frame) => {
+            65536 * u64::from(frame.kind)
+                + 256 * u64::from(frame.command)
+                + frame.parameters.len() as u64
+        }
+        Err(refusal) => refused(refusal),
+    }
+}
+
+#[inline(never)]
+pub fn runs(input: &[u8], most: usize, line: &mut [u8], up: &mut [u8]) -> u64 {
+    let mut link = Link::open();
+    let mut sum = 0;
+    let mut at = 0;
+    while at < input.len() {
+        let end = at + most.min(input.len() - at);
+        match link.bytes(&input[at..end], line, up) {
+            Ok((taken, said)) => {
+                sum = mix(mix(sum, report(&said)), taken as u64);
+                at += taken;
+            }
+            Err(refusal) => return mix(mix(sum, refused(refusal)), 0),
+        }
+    }
+    sum
+}
+
+#[inline(never)]
+pub fn bytes(input: &[u8], line: &mut [u8], up: &mut [u8]) -> u64 {
+    let mut link = Link::open();
+    let mut sum = 0;
+    for &byte in input {
+        let number = match link.byte(byte, line, up) {
+            Ok(said) => report(&said),
+            Err(refusal) => refused(refusal),
+        };
+        sum = mix(sum, number);
+    }
+    sum
+}
+
+#[inline(never)]
+pub fn ticks(
+    asks: bool,
+    parameters: &[u8],
+    heard: &[u8],
+    n: u64,
+    line: &mut [u8],
+    up: &mut [u8],
+) -> u64 {
+    let mut link = Link::open();
+    if asks {
+        let _ = link.session(7, parameters, line, up);
+    }
+    let _ = link.bytes(heard, line, up);
+    let mut sum = 0;
+    for _ in 0..n {
+        let number = match link.tick(line, up) {
+            Ok(said) => report(&said),
+            Err(refusal) => refused(refusal),
+        };
+        sum = mix(sum, number);
+    }
+    sum
+}
+
+#[inline(never)]
+pub fn count(input: &[u8]) -> [u64; 9] {
+    let counts = linecount::count(input).expect("memory is read without fail");
+    [
+        counts.ack,
+        counts.nak,
+        counts.can,
+        counts.frames,
+        counts.badsum,
+        counts.badlen,
+        counts.reserved,
+        counts.skipped,
+        counts.open,
+    ]
+}

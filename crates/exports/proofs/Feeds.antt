@@ -1,0 +1,140 @@
+-- One call more, at what is left of the bytes or of the ticks.
+--     bytes-on, bytes-end   every byte in a call of its own
+--     ticks-..              ticks
+--     ended                 what is reached is what is answered
+--     asked-.., heard-on    before the ticks
+-- Assumes nothing.
+use mathlib.Core.Path.{_≡_, refl, sym, ap, _∙_}
+use mathlib.Core.Bool.{Bool, true, false}
+use mathlib.Core.List.{List}
+use Prim.Native.Nat.{ℕ, suc, _+_, _-_, _≤_, _<_}
+use native.Mathlib.Numerals.{add-one}
+use native.Mathlib.Omega.{arith}
+use lib.ListN.{length, drop, getD, drop-of-length-le}
+use lib.Seq.{drop-cons}
+use Rattle.link.specs.Rules.{base}
+use Rattle.link.specs.Step.{Out, byteOut, tickOut, openOut, runOut}
+use Rattle.link.specs.Calls.{Checked, Call, Run, checks, passes, sessionChecks}
+use Rattle.link.specs.declared.state.Link.{Link}
+use Rattle.link.specs.State.{freshLink}
+use Rattle.link.specs.declared.calls.Answered.{Answered}
+use Rattle.link.specs.declared.calls.Ran.{Ran}
+use Rattle.link.specs.declared.job.Asking.the-variants.{Asks}
+use Rattle.frame.specs.Frame.{frameOf}
+use Rattle.exports.specs.Numbers.{mixed, answerNumber}
+use Rattle.exports.specs.Feeding.{Fed, afterCall, byteFed, tickFed, bytesFed, ticksFed, opened, asked, heardFed, Ended, Ready}
+
+-- a link, two buffers and a number, put together
+abbrev pub at : Link → List ℕ → List ℕ → ℕ → Fed
+at l line up s = record { link = l; line = line; up = up; sum = s }
+
+pub same-checks : (own : Checked) (line up line₀ up₀ : List ℕ) → length line ≡ length line₀ → length up ≡ length up₀
+    → checks line up own ≡ checks line₀ up₀ own
+same-checks own line up line₀ up₀ p q = simp (p, q)
+
+fed : (own k : Checked) (o : Out) (l : Link) (line up line′ up′ : List ℕ) (r : Answered) (s n m : ℕ)
+    → checks line up own ≡ k → Call own o l line up r line′ up′ → n ≡ mixed s m → m ≡ answerNumber (r .answer)
+    → afterCall k o (at l line up s) ≡ at (r .link) line′ up′ n
+fed own k o l line up line′ up′ r s n m e p q a = simp (← e, q, a, p .answer, p .line-left, p .up-left)
+
+-- k is of the buffers as they were lent; here they are line and up
+module _ (line₀ up₀ : List ℕ) (l : Link) (line up : List ℕ) (s : ℕ) where
+  abbrev k : Checked
+  k = checks line₀ up₀ passes
+
+  abbrev f : Fed
+  f = at l line up s
+
+  module _ (i : ℕ) (bytes : List ℕ) where
+    pub bytes-end : length bytes ≤ i → bytesFed k f (drop i bytes) ≡ f
+    unfolding bytesFed
+    bytes-end h = simp (drop-of-length-le bytes h)
+
+    bytes-more : i < length bytes → bytesFed k f (drop i bytes) ≡ bytesFed k (byteFed k f (getD bytes i 0)) (drop (i + 1) bytes)
+    unfolding bytesFed
+    bytes-more h = rw (drop-cons bytes i 0 h) (simp add-one)
+
+    pub bytes-on : (line′ up′ : List ℕ) (r : Answered) (n m : ℕ) → i < length bytes
+        → length line ≡ length line₀ → length up ≡ length up₀
+        → Call passes (byteOut base l (getD bytes i 0)) l line up r line′ up′ → n ≡ mixed s m → m ≡ answerNumber (r .answer)
+        → bytesFed k f (drop i bytes) ≡ bytesFed k (at (r .link) line′ up′ n) (drop (i + 1) bytes)
+    bytes-on line′ up′ r n m h p q x e a =
+        bytes-more h
+        ∙ ap (λ (g : Fed). bytesFed k g (drop (i + 1) bytes)) (fed passes k (byteOut base l (getD bytes i 0)) l line up line′ up′ r s n m (same-checks passes line up line₀ up₀ p q) x e a)
+
+  module _ (i n : ℕ) where
+    pub ticks-start : i ≡ 0 → ticksFed k f n ≡ ticksFed k f (n - i)
+    ticks-start h = let e : n ≡ n - i = omega (arith, h) in ap (ticksFed k f) e
+
+    pub ticks-end : n ≤ i → ticksFed k f (n - i) ≡ f
+    unfolding ticksFed
+    ticks-end h = let e : n - i ≡ 0 = omega (arith, h) in rw e refl
+
+    ticks-more : i < n → ticksFed k f (n - i) ≡ ticksFed k (tickFed k f) (n - (i + 1))
+    unfolding ticksFed
+    ticks-more h = let e : n - i ≡ n - (i + 1) + 1 = omega (arith, h) in rw (e ∙ add-one (n - (i + 1))) refl
+
+    pub ticks-on : (line′ up′ : List ℕ) (r : Answered) (t m : ℕ) → i < n
+        → length line ≡ length line₀ → length up ≡ length up₀
+        → Call passes (tickOut base l) l line up r line′ up′ → t ≡ mixed s m → m ≡ answerNumber (r .answer)
+        → ticksFed k f (n - i) ≡ ticksFed k (at (r .link) line′ up′ t) (n - (i + 1))
+    ticks-on line′ up′ r t m h p q x e a =
+        ticks-more h
+        ∙ ap (λ (g : Fed). ticksFed k g (n - (i + 1))) (fed passes k (tickOut base l) l line up line′ up′ r s t m (same-checks passes line up line₀ up₀ p q) x e a)
+
+-- what is reached is what is answered
+pub ended : (f : Fed) (l : Link) (line up : List ℕ) (s : ℕ) → f ≡ at l line up s → Ended f s line up
+ended f l line up s e =
+    record {
+      answer = sym (ap (λ (g : Fed). g .sum) e);
+      line-left = sym (ap (λ (g : Fed). g .line) e);
+      up-left = sym (ap (λ (g : Fed). g .up) e);
+    }
+
+-- ---- before the ticks
+module _ (ps line up : List ℕ) (l : Link) (fresh : l ≡ freshLink) where
+  pub asked-on : (asks : Bool) (line′ up′ : List ℕ) (r : Answered) → asks ≡ true
+      → Call (sessionChecks l (length ps)) (openOut l (Asks 7) (frameOf 0 7 ps)) l line up r line′ up′
+      → asked asks ps (opened line up) ≡ at (r .link) line′ up′ 0
+  asked-on asks line′ up′ r e x = simp (e, x .answer, x .line-left, x .up-left, fresh)
+
+  pub asked-not : (asks : Bool) → asks ≡ false → asked asks ps (opened line up) ≡ at l line up 0
+  asked-not asks e = simp (e, fresh)
+
+pub heard-on : (bs : List ℕ) (f : Fed) (l : Link) (line up line′ up′ : List ℕ) (r : Ran) → f ≡ at l line up 0
+    → Run (runOut base l bs) l line up r line′ up′ → Ready (heardFed bs f) (r .link) line′ up′
+heard-on bs f l line up line′ up′ r e x =
+    record {
+      link = ap (λ (q : Ran). q .link) (x .answer) ∙ ap (λ (g : Fed). heardFed bs g .link) (sym e);
+      line-left = x .line-left ∙ ap (λ (g : Fed). heardFed bs g .line) (sym e);
+      up-left = x .up-left ∙ ap (λ (g : Fed). heardFed bs g .up) (sym e);
+    }
+
+asked-sum : (asks : Bool) (ps line up : List ℕ) → asked asks ps (opened line up) .sum ≡ 0
+asked-sum true ps line up = refl
+asked-sum false ps line up = refl
+
+-- ticks on a link that was made ready
+module _ (asks : Bool) (ps bs line₀ up₀ : List ℕ) where
+  abbrev ready : Fed
+  ready = heardFed bs (asked asks ps (opened line₀ up₀))
+
+  made-ready : (l : Link) (line up : List ℕ) → Ready ready l line up → at l line up 0 ≡ ready
+  made-ready l line up x =
+      ap (λ (y : Link). at y line up 0) (x .link)
+      ∙ ap (λ (y : List ℕ). at (ready .link) y up 0) (x .line-left)
+      ∙ ap (λ (y : List ℕ). at (ready .link) (ready .line) y 0) (x .up-left)
+      ∙ ap (at (ready .link) (ready .line) (ready .up)) (sym (asked-sum asks ps line₀ up₀))
+
+  pub ready-ticks : (l : Link) (line up line′ up′ : List ℕ) (n r : ℕ) → length line ≡ length line₀ → length up ≡ length up₀
+      → Ready ready l line up → Ended (ticksFed (checks line up passes) (at l line up 0) n) r line′ up′
+      → Ended (ticksFed (checks line₀ up₀ passes) ready n) r line′ up′
+  ready-ticks l line up line′ up′ n r p q x y =
+      let e : ticksFed (checks line up passes) (at l line up 0) n ≡ ticksFed (checks line₀ up₀ passes) ready n =
+      ap (λ (z : Checked). ticksFed z (at l line up 0) n) (same-checks passes line up line₀ up₀ p q)
+      ∙ ap (λ (z : Fed). ticksFed (checks line₀ up₀ passes) z n) (made-ready l line up x) in
+      record {
+        answer = y .answer ∙ ap (λ (g : Fed). g .sum) e;
+        line-left = y .line-left ∙ ap (λ (g : Fed). g .line) e;
+        up-left = y .up-left ∙ ap (λ (g : Fed). g .up) e;
+      }

@@ -1,0 +1,3 @@
+pub mod Feeds
+pub mod Takes
+pub mod Theorems

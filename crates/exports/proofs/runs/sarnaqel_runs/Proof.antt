@@ -1,0 +1,157 @@
+-- `exports::runs::sarnaqel_runs` meets its contract: the invariant is that the bytes left, from here, give what all of them give,
+-- with as many runs as there are bytes left, since each takes at least one.
+-- Assumes nothing.
+use mathlib.Core.Path.{_≡_, refl, sym, ap, _∙_}
+use Prim.Native.Nat.{ℕ, _≤_, _+_, _-_}
+use native.Mathlib.Omega.{arith}
+use borrow.Author.Needs.{needs}
+use lib.ListN.{length, drop}
+use denote.Ref.{now}
+use Rattle.link.specs.Calls.{checks, passes}
+use Rattle.link.specs.declared.state.Link.{Link}
+use Rattle.exports.specs.Feeding.{runsFed}
+use Rattle.exports.proofs.Feeds.{ended}
+use Rattle.exports.proofs.Takes.{fed, part-given, taken-left, runs-stop, runs-on, runs-end}
+use Rattle.exports.proofs.runs.sarnaqel_runs.Statement.{statement}
+use Rattle.exports.proofs.runs.sarnaqel_runs.Tie as tie
+
+abbrev Inv-loop : tie.InvT-loop
+Inv-loop input most line₀ up₀ link₀ sum₀ at₀ line up link sum at =
+    (at ≤ length input)
+    × (length line ≡ length line₀)
+    × (length up ≡ length up₀)
+    × (fuel : ℕ)
+    × (length input - at ≤ fuel)
+    × (runsFed (length input) (checks line₀ up₀ passes) most (fed link₀ line₀ up₀ sum₀) input ≡ runsFed fuel (checks line₀ up₀ passes) most (fed link line up sum) (drop at input))
+
+abbrev μ-loop : tie.MeasureT-loop
+μ-loop input most line₀ up₀ link₀ sum₀ at₀ line up link sum at = length input - at
+
+open-requires : tie.Need-open-requires Inv-loop μ-loop
+open-requires c κs = search needs
+
+loop-holds : tie.Need-loop-holds Inv-loop μ-loop
+loop-holds c = (omega arith, refl, refl, length (now (c .before .before .before .before .args .input)), omega arith, refl)
+
+sub-left : tie.Need-sub-left Inv-loop μ-loop
+sub-left c = omega arith
+
+least-requires : tie.Need-least-requires Inv-loop μ-loop
+least-requires c κs = search needs
+
+add-end : tie.Need-add-end Inv-loop μ-loop
+add-end c = omega arith
+
+sub-bytes : tie.Need-sub-bytes Inv-loop μ-loop
+sub-bytes c = omega arith
+
+part-bytes-start : tie.Need-part-bytes-start Inv-loop μ-loop
+part-bytes-start c = omega arith
+
+part-bytes-end : tie.Need-part-bytes-end Inv-loop μ-loop
+part-bytes-end c = omega arith
+
+bytes-requires : tie.Need-bytes-requires Inv-loop μ-loop
+bytes-requires c κs = search needs
+
+told-requires : tie.Need-told-requires Inv-loop μ-loop
+told-requires c κs = search needs
+
+mix-requires : tie.Need-mix-requires Inv-loop μ-loop
+mix-requires c κs = search needs
+
+mix-requires-2 : tie.Need-mix-requires-2 Inv-loop μ-loop
+mix-requires-2 c κs = search needs
+
+same-length : tie.Need-same-length Inv-loop μ-loop
+same-length c = omega arith
+
+same-length-2 : tie.Need-same-length-2 Inv-loop μ-loop
+same-length-2 c = omega arith
+
+returns : tie.Need-returns Inv-loop μ-loop
+returns c =
+    let l = c .before .before .before .before .before .before .before .before .before .before .before .before .before .before .before .loop in
+    let a = c .before .before .before .before .before .before .before .before .before .before .before .before .before .before .before .before .before .before .before .before .args in
+    let start = ap (λ (x : Link). runsFed (length (now (a .input))) (checks (now (a .line)) (now (a .up)) passes) (a .most) (fed x (now (a .line)) (now (a .up)) 0) (now (a .input))) (sym (c .before .before .before .before .before .before .before .before .before .before .before .before .before .before .before .before .«open» .ensures)) in
+    ended _ _ _ _ _
+    (start ∙ l .inv .5
+    ∙ runs-stop (now (a .line)) (now (a .up)) (a .most) (now (a .input)) (l .link) (l .line) (l .up) (l .sum) (l .at) _ _ _ _ _ _ _ _
+    (part-given (l .at) _ (a .most) (now (a .input)) (c .before .before .before .before .before .before .before .before .before .before .before .before .before .least .ensures)) (l .inv .1) (l .inv .2) (c .before .before .before .before .before .before .before .before .before .bytes .ensures) (c .before .before .before .told .ensures .0) (c .before .before .before .told .ensures .1) (c .before .before .mix .ensures) (c .before .mix2 .ensures)
+    (l .inv .3) (c .before .before .before .before .before .before .before .before .before .before .before .before .before .before .loop-test .taken) (omega arith) (c .if1 .taken))
+
+add-at : tie.Need-add-at Inv-loop μ-loop
+add-at c =
+    let l = c .before .before .before .before .before .before .before .before .before .before .before .before .before .before .before .loop in
+    let a = c .before .before .before .before .before .before .before .before .before .before .before .before .before .before .before .before .before .before .before .before .args in
+    let most = taken-left (now (a .line)) (now (a .up)) (a .most) (now (a .input)) (l .link) (l .line) (l .up) (l .sum) (l .at) _ _ _ _ _ _ _ _
+    (part-given (l .at) _ (a .most) (now (a .input)) (c .before .before .before .before .before .before .before .before .before .before .before .before .before .least .ensures)) (l .inv .1) (l .inv .2) (c .before .before .before .before .before .before .before .before .before .bytes .ensures) (c .before .before .before .told .ensures .0) (c .before .before .before .told .ensures .1) (c .before .before .mix .ensures) (c .before .mix2 .ensures) in
+    omega (arith, c .before .before .before .before .before .before .before .before .before .before .before .before .before .before .before .before .before .before .before .before .good .0 .0, most)
+
+loop-less : tie.Need-loop-less Inv-loop μ-loop
+loop-less c =
+    let l = c .before .before .before .before .before .before .before .before .before .before .before .before .before .before .before .loop in
+    let a = c .before .before .before .before .before .before .before .before .before .before .before .before .before .before .before .before .before .before .before .before .args in
+    let most = taken-left (now (a .line)) (now (a .up)) (a .most) (now (a .input)) (l .link) (l .line) (l .up) (l .sum) (l .at) _ _ _ _ _ _ _ _
+    (part-given (l .at) _ (a .most) (now (a .input)) (c .before .before .before .before .before .before .before .before .before .before .before .before .before .least .ensures)) (l .inv .1) (l .inv .2) (c .before .before .before .before .before .before .before .before .before .bytes .ensures) (c .before .before .before .told .ensures .0) (c .before .before .before .told .ensures .1) (c .before .before .mix .ensures) (c .before .mix2 .ensures) in
+    omega (arith, most)
+
+loop-again : tie.Need-loop-again Inv-loop μ-loop
+loop-again c =
+    let l = c .before .before .before .before .before .before .before .before .before .before .before .before .before .before .before .loop in
+    let a = c .before .before .before .before .before .before .before .before .before .before .before .before .before .before .before .before .before .before .before .before .args in
+    let most = taken-left (now (a .line)) (now (a .up)) (a .most) (now (a .input)) (l .link) (l .line) (l .up) (l .sum) (l .at) _ _ _ _ _ _ _ _
+    (part-given (l .at) _ (a .most) (now (a .input)) (c .before .before .before .before .before .before .before .before .before .before .before .before .before .least .ensures)) (l .inv .1) (l .inv .2) (c .before .before .before .before .before .before .before .before .before .bytes .ensures) (c .before .before .before .told .ensures .0) (c .before .before .before .told .ensures .1) (c .before .before .mix .ensures) (c .before .mix2 .ensures) in (
+      omega (arith, most),
+      omega arith,
+      omega arith,
+      l .inv .3 - 1,
+      omega (arith, most),
+      l .inv .5
+          ∙ runs-on (now (a .line)) (now (a .up)) (a .most) (now (a .input)) (l .link) (l .line) (l .up) (l .sum) (l .at) _ _ _ _ _ _ _ _
+          (part-given (l .at) _ (a .most) (now (a .input)) (c .before .before .before .before .before .before .before .before .before .before .before .before .before .least .ensures)) (l .inv .1) (l .inv .2) (c .before .before .before .before .before .before .before .before .before .bytes .ensures) (c .before .before .before .told .ensures .0) (c .before .before .before .told .ensures .1) (c .before .before .mix .ensures) (c .before .mix2 .ensures)
+          (l .inv .3) (c .before .before .before .before .before .before .before .before .before .before .before .before .before .before .loop-test .taken) (omega arith) (c .if1 .left),
+    )
+
+same-length-3 : tie.Need-same-length-3 Inv-loop μ-loop
+same-length-3 c = omega arith
+
+same-length-4 : tie.Need-same-length-4 Inv-loop μ-loop
+same-length-4 c = omega arith
+
+returns-2 : tie.Need-returns-2 Inv-loop μ-loop
+returns-2 c =
+    let l = c .before .loop in
+    let a = c .before .before .before .before .before .before .args in
+    let start = ap (λ (x : Link). runsFed (length (now (a .input))) (checks (now (a .line)) (now (a .up)) passes) (a .most) (fed x (now (a .line)) (now (a .up)) 0) (now (a .input))) (sym (c .before .before .«open» .ensures)) in
+    ended _ (l .link) (l .line) (l .up) (l .sum)
+    (start ∙ l .inv .5
+    ∙ runs-end (now (a .line)) (now (a .up)) (a .most) (now (a .input)) (l .link) (l .line) (l .up) (l .sum) (l .at) (l .inv .3) (c .loop-test .left))
+
+pub sarnaqel-runs-spec : {M : Type 1} → statement M
+sarnaqel-runs-spec =
+    tie.close
+    (tie.spec
+    Inv-loop
+    μ-loop
+    open-requires
+    loop-holds
+    sub-left
+    least-requires
+    add-end
+    sub-bytes
+    part-bytes-start
+    part-bytes-end
+    bytes-requires
+    told-requires
+    mix-requires
+    mix-requires-2
+    same-length
+    same-length-2
+    returns
+    add-at
+    loop-less
+    loop-again
+    same-length-3
+    same-length-4
+    returns-2)

@@ -1,0 +1,30 @@
+-- `exports::runs::sarnaqel_ticks` meets its contract: the ticks start from what `prepared` leaves.
+-- Assumes nothing.
+use native.Mathlib.Omega.{arith}
+use denote.Ref.{now}
+use Rattle.exports.proofs.Feeds.{ready-ticks}
+use borrow.Author.Needs.{needs}
+use Rattle.exports.proofs.runs.sarnaqel_ticks.Statement.{statement}
+use Rattle.exports.proofs.runs.sarnaqel_ticks.Tie as tie
+
+prepared-requires : tie.Need-prepared-requires
+prepared-requires c κs = search needs
+
+ticked-requires : tie.Need-ticked-requires
+ticked-requires c κs = search needs
+
+same-length : tie.Need-same-length
+same-length c = search needs
+
+same-length-2 : tie.Need-same-length-2
+same-length-2 c = search needs
+
+returns : tie.Need-returns
+returns c =
+    let a = c .before .before .before .before .before .before .before .before .before .before .before .before .before .before .before .before .before .before .args in
+    ready-ticks (a .asks) (now (a .parameters)) (now (a .heard)) (now (a .line)) (now (a .up)) (c .before .before .before .before .before .before .before .before .before .before .before .prepared .result) _ _ _ _ (a .n) _ (omega arith) (omega arith)
+    (c .before .before .before .before .before .before .before .before .before .before .before .prepared .ensures) (c .before .before .before .before .ticked .ensures)
+
+pub sarnaqel-ticks-spec : {M : Type 1} → statement M
+sarnaqel-ticks-spec =
+    tie.close (tie.spec prepared-requires ticked-requires same-length same-length-2 returns)

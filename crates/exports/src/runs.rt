@@ -1,0 +1,110 @@
+// Whole inputs given to a fresh link, call by call. What the calls told comes back as one number.
+use crate::sums::answer_number;
+use crate::sums::mix;
+use crate::sums::told;
+use link::Link;
+ghost use mathlib.Core.Path.{_≡_};
+ghost use Prim.Native.Nat.{min};
+ghost use lib.ListN.{length};
+ghost use Rattle.link.specs.Calls.{checks, passes};
+ghost use Rattle.exports.specs.Feeding.{Ended, Ready, opened, asked, heardFed, bytesFed, ticksFed, runsFed};
+
+fn least(a: usize, b: usize) -> usize
+    ensures { λ r. ⌜ r ≡ min a b ⌝ }
+{
+    if a <= b {
+        return a;
+    }
+    b
+}
+
+// Runs of at most so many bytes, until all are taken.
+#[no_mangle]
+pub extern "C" fn sarnaqel_runs(input: &[u8], most: usize, line: &mut [u8], up: &mut [u8]) -> u64
+    ensures { λ r. ⌜ Ended (runsFed (length (now (input .entry))) (checks (now (line .entry)) (now (up .entry)) passes) most (opened (now (line .entry)) (now (up .entry))) (now (input .entry))) r (now (line .exit)) (now (up .exit)) ⌝ }
+{
+    let mut link = Link::open();
+    let mut sum = 0;
+    let mut at = 0;
+    while at < input.len() {
+        let left = input.len() - at;
+        let end = at + least(left, most);
+        let ran = link.bytes(&input[at..end], line, up);
+        link = ran.link;
+        let answer = ran.answer;
+        let run = told(answer);
+        sum = mix(mix(sum, run.number), run.taken as u64);
+        let taken = run.taken;
+        if taken == 0 {
+            return sum;
+        }
+        at += taken;
+    }
+    sum
+}
+
+// Every byte in a call of its own.
+#[no_mangle]
+pub extern "C" fn sarnaqel_bytes(input: &[u8], line: &mut [u8], up: &mut [u8]) -> u64
+    ensures { λ r. ⌜ Ended (bytesFed (checks (now (line .entry)) (now (up .entry)) passes) (opened (now (line .entry)) (now (up .entry))) (now (input .entry))) r (now (line .exit)) (now (up .exit)) ⌝ }
+{
+    let mut link = Link::open();
+    let mut sum = 0;
+    let mut i = 0;
+    while i < input.len() {
+        let answered = link.byte(input[i], line, up);
+        link = answered.link;
+        let answer = answered.answer;
+        sum = mix(sum, answer_number(answer));
+        i += 1;
+    }
+    sum
+}
+
+// A fresh link on which a session is asked for, or not, and then a run of bytes comes.
+fn prepared(asks: bool, parameters: &[u8], heard: &[u8], line: &mut [u8], up: &mut [u8]) -> Link
+    ensures { λ r. ⌜ Ready (heardFed (now (heard .entry)) (asked asks (now (parameters .entry)) (opened (now (line .entry)) (now (up .entry))))) r (now (line .exit)) (now (up .exit)) ⌝ }
+{
+    let fresh = Link::open();
+    if asks {
+        let answered = fresh.session(7, parameters, line, up);
+        let link = answered.link;
+        let ran = link.bytes(heard, line, up);
+        return ran.link;
+    }
+    let ran = fresh.bytes(heard, line, up);
+    ran.link
+}
+
+// So many ticks.
+fn ticked(start: Link, n: u64, line: &mut [u8], up: &mut [u8]) -> u64
+    ensures { λ r. ⌜ Ended (ticksFed (checks (now (line .entry)) (now (up .entry)) passes) (record { link = start; line = now (line .entry); up = now (up .entry); sum = 0 }) n) r (now (line .exit)) (now (up .exit)) ⌝ }
+{
+    let mut link = start;
+    let mut sum = 0;
+    let mut i = 0;
+    while i < n {
+        let answered = link.tick(line, up);
+        link = answered.link;
+        let answer = answered.answer;
+        sum = mix(sum, answer_number(answer));
+        i += 1;
+    }
+    sum
+}
+
+// So many ticks on a link that was prepared so.
+#[no_mangle]
+pub extern "C" fn sarnaqel_ticks(
+    asks: bool,
+    parameters: &[u8],
+    heard: &[u8],
+    n: u64,
+    line: &mut [u8],
+    up: &mut [u8],
+) -> u64
+    ensures { λ r. ⌜ Ended (ticksFed (checks (now (line .entry)) (now (up .entry)) passes) (heardFed (now (heard .entry)) (asked asks (now (parameters .entry)) (opened (now (line .entry)) (now (up .entry))))) n) r (now (line .exit)) (now (up .exit)) ⌝ }
+{
+    let link = prepared(asks, parameters, heard, line, up);
+    ticked(link, n, line, up)
+}
