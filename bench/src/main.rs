@@ -240,6 +240,11 @@ fn measure() -> Result<(), String> {
     let mix_a = stream(SEED, "mixA", INPUT).ok_or("there is no mixA")?;
     let mix_b = stream(SEED, "mixB", INPUT).ok_or("there is no mixB")?;
     let whole = usize::MAX;
+    println!(
+        "- Input: {} MiB of each mix, from one seed. Mix A has frames of 5 to 257 bytes with noise of 0 to 16 bytes between, mix B frames of 5 to 14 with noise of 0 to 4; in both, 1 frame in 16 has a bad sum, 1 in 16 is an 01 and a bad Length alone, and 1 in 16 has a reserved type. Byte calls get the first MiB, the tables of sizes the first 4.",
+        INPUT / 1024 / 1024
+    );
+    println!("- Each figure is the median of {ROUNDS} rounds, behind one that is not counted; within a round all run in turn, in an order that turns with the rounds. Times are of the thread, so what other programs take is left out. The lent buffers are cleared at the start of each timed run, and all answers and lent bytes are compared.");
 
     let mut rows = Vec::new();
     for (name, input) in [("mix A", &mix_a), ("mix B", &mix_b)] {
