@@ -12,13 +12,13 @@ use lib.ListN.{length, take, drop, getD, take-append-drop, length-drop}
 use lib.Seq.{drop-cons, drop-drop, length-take-le}
 use Rattle.frame.specs.Pick.{pick}
 use Rattle.frame.specs.Bytes.{xorAll}
-use Rattle.link.specs.Hearing.{heard, begun, more, ended}
-use Rattle.link.specs.declared.hearing.Partial.{Partial}
-use Rattle.link.specs.declared.hearing.Hearing.{Hearing}
-use Rattle.link.specs.declared.hearing.Hearing.the-variants.{Hunting, Head, Body}
-use Rattle.link.specs.declared.hearing.Single.the-variants.{Ack, Nak, Can}
-use Rattle.link.specs.declared.hearing.End.the-variants.{BadSum, Reserved, Request, Response}
-use Rattle.link.specs.declared.hearing.Event.the-variants.{Skipped, Alone}
+use Rattle.reception.specs.Hearing.{heard, begun, more, ended}
+use Rattle.reception.specs.declared.hearing.Partial.{Partial}
+use Rattle.reception.specs.declared.hearing.Hearing.{Hearing}
+use Rattle.reception.specs.declared.hearing.Hearing.the-variants.{Hunting, Head, Body}
+use Rattle.reception.specs.declared.hearing.Single.the-variants.{Ack, Nak, Can}
+use Rattle.reception.specs.declared.hearing.End.the-variants.{BadSum, Reserved, Request, Response}
+use Rattle.reception.specs.declared.hearing.Event.the-variants.{Skipped, Alone}
 use Rattle.counting.specs.declared.Counts.{Counts}
 use Rattle.counting.specs.declared.Tally.{Tally}
 use Rattle.counting.specs.Counting.{endColumn, added, tallied, countedByte, countedFrom}

@@ -9,10 +9,10 @@ use lib.Dec.{eqb}
 use lib.ListN.{length}
 use borrow.Author.Tests.{lt-ltb}
 use Rattle.frame.specs.Pick.{pick}
-use Rattle.link.specs.Hearing.{heardByte}
-use Rattle.link.specs.declared.hearing.Hearing.{Hearing}
-use Rattle.link.specs.declared.hearing.Hearing.the-variants.{Hunting}
-use Rattle.link.specs.declared.hearing.Event.{Event}
+use Rattle.reception.specs.Hearing.{heardByte}
+use Rattle.reception.specs.declared.hearing.Hearing.{Hearing}
+use Rattle.reception.specs.declared.hearing.Hearing.the-variants.{Hunting}
+use Rattle.reception.specs.declared.hearing.Event.{Event}
 use Rattle.counting.specs.declared.Counts.{Counts}
 use Rattle.counting.specs.declared.Tally.{Tally}
 use Rattle.counting.specs.Counting.{column, oneMore, hit, countedByte, countedFrom, fresh}

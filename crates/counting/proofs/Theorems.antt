@@ -6,8 +6,8 @@ use Prim.Native.Nat.{ℕ, _+_, _≤_}
 use native.Mathlib.Omega.{arith}
 use lib.ListN.{length}
 use Rattle.frame.proofs.Theorems.{fixed}
-use Rattle.link.specs.declared.hearing.Hearing.{Hearing}
-use Rattle.link.specs.declared.hearing.Hearing.the-variants.{Hunting}
+use Rattle.reception.specs.declared.hearing.Hearing.{Hearing}
+use Rattle.reception.specs.declared.hearing.Hearing.the-variants.{Hunting}
 use Rattle.counting.specs.declared.Tally.{Tally}
 use Rattle.counting.specs.Counting.{countedFrom, fresh, openBytes}
 use Rattle.counting.specs.Exact.{events, behind, numbers}

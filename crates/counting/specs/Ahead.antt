@@ -6,7 +6,7 @@ use mathlib.Core.List.{List}
 use lib.Dec.{eqb, ltb}
 use lib.ListN.{length, drop}
 use Rattle.frame.specs.Pick.{pick}
-use Rattle.link.specs.declared.hearing.Hearing.the-variants.{Hunting}
+use Rattle.reception.specs.declared.hearing.Hearing.the-variants.{Hunting}
 use Rattle.counting.specs.declared.Counts.{Counts}
 use Rattle.counting.specs.declared.Tally.{Tally}
 use Rattle.counting.specs.Counting.{countedFrom}

@@ -4,16 +4,16 @@ use Prim.Native.Nat.{ℕ, _+_}
 use mathlib.Core.List.{List, [], _∷_}
 use lib.Dec.{ltb, eqb}
 use Rattle.frame.specs.Pick.{pick}
-use Rattle.link.specs.Hearing.{heardByte}
-use Rattle.link.specs.declared.hearing.Hearing.{Hearing}
-use Rattle.link.specs.declared.hearing.Hearing.the-variants.{Hunting, Head, Body}
-use Rattle.link.specs.declared.hearing.Single.{Single}
-use Rattle.link.specs.declared.hearing.Single.the-variants.{Ack, Nak, Can}
-use Rattle.link.specs.declared.hearing.End.{End}
-use Rattle.link.specs.declared.hearing.End.the-variants.{BadLength, BadSum, Reserved, Request, Response}
-use Rattle.link.specs.declared.hearing.Event.{Event}
-use Rattle.link.specs.declared.hearing.Event.the-variants.{Inside, Kept, Skipped, Alone, Ended, TickHunting, TickInside, Aborted}
-use Rattle.link.specs.declared.hearing.Heard.{Heard}
+use Rattle.reception.specs.Hearing.{heardByte}
+use Rattle.reception.specs.declared.hearing.Hearing.{Hearing}
+use Rattle.reception.specs.declared.hearing.Hearing.the-variants.{Hunting, Head, Body}
+use Rattle.reception.specs.declared.hearing.Single.{Single}
+use Rattle.reception.specs.declared.hearing.Single.the-variants.{Ack, Nak, Can}
+use Rattle.reception.specs.declared.hearing.End.{End}
+use Rattle.reception.specs.declared.hearing.End.the-variants.{BadLength, BadSum, Reserved, Request, Response}
+use Rattle.reception.specs.declared.hearing.Event.{Event}
+use Rattle.reception.specs.declared.hearing.Event.the-variants.{Inside, Kept, Skipped, Alone, Ended, TickHunting, TickInside, Aborted}
+use Rattle.reception.specs.declared.hearing.Heard.{Heard}
 use Rattle.counting.specs.declared.Counts.{Counts}
 use Rattle.counting.specs.declared.Tally.{Tally}
 

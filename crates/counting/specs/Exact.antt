@@ -4,9 +4,9 @@ use Prim.Native.Nat.{ℕ, _+_}
 use mathlib.Core.List.{List, [], _∷_}
 use lib.Dec.{eqb}
 use Rattle.frame.specs.Pick.{pick}
-use Rattle.link.specs.Hearing.{heardByte}
-use Rattle.link.specs.declared.hearing.Hearing.{Hearing}
-use Rattle.link.specs.declared.hearing.Event.{Event}
+use Rattle.reception.specs.Hearing.{heardByte}
+use Rattle.reception.specs.declared.hearing.Hearing.{Hearing}
+use Rattle.reception.specs.declared.hearing.Event.{Event}
 use Rattle.counting.specs.declared.Counts.{Counts}
 use Rattle.counting.specs.Counting.{column}
 

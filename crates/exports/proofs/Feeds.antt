@@ -12,14 +12,14 @@ use native.Mathlib.Numerals.{add-one}
 use native.Mathlib.Omega.{arith}
 use lib.ListN.{length, drop, getD, drop-of-length-le}
 use lib.Seq.{drop-cons}
-use Rattle.link.specs.Rules.{base}
+use Rattle.sending.specs.Rules.{base}
 use Rattle.link.specs.Step.{Out, byteOut, tickOut, openOut, runOut}
 use Rattle.link.specs.Calls.{Checked, Call, Run, checks, passes, sessionChecks}
 use Rattle.link.specs.declared.state.Link.{Link}
 use Rattle.link.specs.State.{freshLink}
 use Rattle.link.specs.declared.calls.Answered.{Answered}
 use Rattle.link.specs.declared.calls.Ran.{Ran}
-use Rattle.link.specs.declared.job.Asking.the-variants.{Asks}
+use Rattle.sending.specs.declared.job.Asking.the-variants.{Asks}
 use Rattle.frame.specs.Frame.{frameOf}
 use Rattle.exports.specs.Numbers.{mixed, answerNumber}
 use Rattle.exports.specs.Feeding.{Fed, afterCall, byteFed, tickFed, bytesFed, ticksFed, opened, asked, heardFed, Ended, Ready}

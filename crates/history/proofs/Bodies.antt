@@ -12,8 +12,8 @@ use borrow.Author.Tests.{ne-eqb}
 use Rattle.frame.specs.Pick.{pick}
 use Rattle.frame.specs.Bytes.{xorAll}
 use Rattle.frame.proofs.Folds.{fold-append}
-use Rattle.link.specs.Hearing.{begun, more}
-use Rattle.link.specs.declared.hearing.Partial.{Partial}
+use Rattle.reception.specs.Hearing.{begun, more}
+use Rattle.reception.specs.declared.hearing.Partial.{Partial}
 
 -- the Length and these body bytes have come
 abbrev pub partialOf : ℕ → ℕ → List ℕ → Partial

@@ -11,17 +11,17 @@ use borrow.Author.Tests.{ltb-true, ltb-false, eqb-true}
 use Rattle.frame.specs.Bytes.{xorAll}
 use Rattle.frame.specs.Frame.{frameOf}
 use Rattle.frame.proofs.Theorems.{built-reads}
-use Rattle.link.specs.Rules.{Rules}
-use Rattle.link.specs.Hearing.{heard, heardByte, heardTick, hunted, more, ended, later, keep}
+use Rattle.sending.specs.Rules.{Rules}
+use Rattle.reception.specs.Hearing.{heard, heardByte, heardTick, hunted, more, ended, later, keep}
 use Rattle.link.specs.State.{freshLink, noBody}
 use Rattle.link.specs.Step.{Out, Taken, out, decideOn, byteBy, byteOut, tickOut, openOut, restartOut, runOut}
 use Rattle.link.specs.Calls.{Checked, passes, refuses, roomChecks}
-use Rattle.link.specs.declared.hearing.Partial.{Partial}
-use Rattle.link.specs.declared.hearing.Hearing.{Hearing}
-use Rattle.link.specs.declared.hearing.Hearing.the-variants.{Hunting, Head, Body}
-use Rattle.link.specs.declared.hearing.End.{End}
-use Rattle.link.specs.declared.hearing.Event.the-variants.{Ended}
-use Rattle.link.specs.declared.hearing.Heard.{Heard}
+use Rattle.reception.specs.declared.hearing.Partial.{Partial}
+use Rattle.reception.specs.declared.hearing.Hearing.{Hearing}
+use Rattle.reception.specs.declared.hearing.Hearing.the-variants.{Hunting, Head, Body}
+use Rattle.reception.specs.declared.hearing.End.{End}
+use Rattle.reception.specs.declared.hearing.Event.the-variants.{Ended}
+use Rattle.reception.specs.declared.hearing.Heard.{Heard}
 use Rattle.link.specs.declared.state.Link.{Link}
 use Rattle.history.specs.Calls.{What, byte, bytes, tick, send, session, restart, Call, checksOf, outOf, doneBy, perform}
 use Rattle.history.specs.History.{next, run, after}

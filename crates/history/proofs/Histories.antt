@@ -10,13 +10,13 @@ use lib.ListN.{length}
 use borrow.Author.Tests.{ltb-false}
 use Rattle.frame.specs.Frame.{frameOf}
 use Rattle.frame.specs.declared.refusal.Refusal.{Refusal}
-use Rattle.link.specs.Rules.{Rules}
-use Rattle.link.specs.Job.{isOpen}
+use Rattle.sending.specs.Rules.{Rules}
+use Rattle.sending.specs.Job.{isOpen}
 use Rattle.link.specs.State.{freshLink}
 use Rattle.link.specs.Step.{Out, Taken, byteOut, tickOut, openOut, restartOut, news, runFrom, quiet}
 use Rattle.link.specs.Calls.{Checked, passes, refuses, check, sendChecks, sessionChecks, roomChecks}
-use Rattle.link.specs.declared.job.Asking.{Asking}
-use Rattle.link.specs.declared.job.Asking.the-variants.{Plain, Asks}
+use Rattle.sending.specs.declared.job.Asking.{Asking}
+use Rattle.sending.specs.declared.job.Asking.the-variants.{Plain, Asks}
 use Rattle.link.specs.declared.state.Link.{Link}
 use Rattle.history.specs.Calls.{What, byte, bytes, tick, send, session, restart, Call, checksOf, outOf, took, doneBy, perform}
 use Rattle.history.specs.History.{next, run, after}

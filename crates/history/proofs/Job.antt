@@ -9,24 +9,24 @@ use native.Mathlib.Numerals.{add-one}
 use lib.Dec.{eqb, ltb}
 use borrow.Author.Tests.{ltb-true, ltb-false, eqb-false, lt-ltb}
 use Rattle.frame.specs.Pick.{pick}
-use Rattle.link.specs.Rules.{Rules, Cause, told, time}
-use Rattle.link.specs.Job.{goesOn, still, nextCopy, putOut, start, fail, backOff, lose, acknowledge, onSingle, release, awaits, copiesOf, respond, onEnd, awaited, onTick, onAbort, act}
-use Rattle.link.specs.declared.hearing.Hearing.{Hearing}
-use Rattle.link.specs.declared.hearing.Single.{Single}
-use Rattle.link.specs.declared.hearing.Single.the-variants.{Ack, Nak, Can}
-use Rattle.link.specs.declared.hearing.End.{End}
-use Rattle.link.specs.declared.hearing.End.the-variants as end
-use Rattle.link.specs.declared.hearing.Event.{Event}
-use Rattle.link.specs.declared.hearing.Event.the-variants.{Inside, Kept, Skipped, Alone, Ended, TickHunting, TickInside, Aborted}
-use Rattle.link.specs.declared.job.Act.{Act}
-use Rattle.link.specs.declared.job.Asking.{Asking}
-use Rattle.link.specs.declared.job.Asking.the-variants.{Plain, Asks}
-use Rattle.link.specs.declared.job.Job.{Job}
-use Rattle.link.specs.declared.job.Job.the-variants.{Idle, Due, Waiting, BackingOff, Awaiting}
-use Rattle.link.specs.declared.report.Reset.the-variants as reset
-use Rattle.link.specs.declared.report.Sending.{Sending}
-use Rattle.link.specs.declared.report.Sending.the-variants as sending
-use Rattle.link.specs.declared.report.Session.the-variants as session
+use Rattle.sending.specs.Rules.{Rules, Cause, told, time}
+use Rattle.sending.specs.Job.{goesOn, still, nextCopy, putOut, start, fail, backOff, lose, acknowledge, onSingle, release, awaits, copiesOf, respond, onEnd, awaited, onTick, onAbort, act}
+use Rattle.reception.specs.declared.hearing.Hearing.{Hearing}
+use Rattle.reception.specs.declared.hearing.Single.{Single}
+use Rattle.reception.specs.declared.hearing.Single.the-variants.{Ack, Nak, Can}
+use Rattle.reception.specs.declared.hearing.End.{End}
+use Rattle.reception.specs.declared.hearing.End.the-variants as end
+use Rattle.reception.specs.declared.hearing.Event.{Event}
+use Rattle.reception.specs.declared.hearing.Event.the-variants.{Inside, Kept, Skipped, Alone, Ended, TickHunting, TickInside, Aborted}
+use Rattle.sending.specs.declared.job.Act.{Act}
+use Rattle.sending.specs.declared.job.Asking.{Asking}
+use Rattle.sending.specs.declared.job.Asking.the-variants.{Plain, Asks}
+use Rattle.sending.specs.declared.job.Job.{Job}
+use Rattle.sending.specs.declared.job.Job.the-variants.{Idle, Due, Waiting, BackingOff, Awaiting}
+use Rattle.sending.specs.declared.report.Reset.the-variants as reset
+use Rattle.sending.specs.declared.report.Sending.{Sending}
+use Rattle.sending.specs.declared.report.Sending.the-variants as sending
+use Rattle.sending.specs.declared.report.Session.the-variants as session
 use Rattle.history.specs.Watch.{Verdict, copiesIn, isFailure, Says, none, says, sendVerdict, sessionVerdict, verdictIn}
 use Rattle.history.proofs.Reception.{pick-by, room, Within, WithinIf, Stays, Passes, Aborts, Alones, Tells, ticksAt}
 

@@ -8,24 +8,24 @@ use native.Mathlib.Omega.{arith}
 use lib.Dec.{eqb, ltb}
 use lib.ListN.{take}
 use Rattle.frame.specs.Pick.{pick}
-use Rattle.link.specs.Rules.{Rules, told}
-use Rattle.link.specs.Hearing.{heardByte, heardTick}
-use Rattle.link.specs.Job.{still, onSingle, awaits, copiesOf, act}
+use Rattle.sending.specs.Rules.{Rules, told}
+use Rattle.reception.specs.Hearing.{heardByte, heardTick}
+use Rattle.sending.specs.Job.{still, onSingle, awaits, copiesOf, act}
 use Rattle.link.specs.Report.{replyBytes, saidEnd, saidOn, sumsOn, newsReception, newsSending}
 use Rattle.link.specs.Step.{Out, Taken, out, decided, decideOn, byteBy, byteOut, tickOut, news, quiet, runFrom, runOut}
-use Rattle.link.specs.declared.hearing.Hearing.{Hearing}
-use Rattle.link.specs.declared.hearing.Single.{Single}
-use Rattle.link.specs.declared.hearing.Single.the-variants.{Ack, Nak, Can}
-use Rattle.link.specs.declared.hearing.End.{End}
-use Rattle.link.specs.declared.hearing.End.the-variants as end
-use Rattle.link.specs.declared.hearing.Event.{Event}
-use Rattle.link.specs.declared.hearing.Event.the-variants.{Inside, Kept, Skipped, Alone, Ended, TickHunting, TickInside, Aborted}
-use Rattle.link.specs.declared.hearing.Heard.{Heard}
-use Rattle.link.specs.declared.job.Act.{Act}
-use Rattle.link.specs.declared.job.Asking.{Asking}
-use Rattle.link.specs.declared.job.Asking.the-variants.{Plain, Asks}
-use Rattle.link.specs.declared.job.Job.{Job}
-use Rattle.link.specs.declared.job.Job.the-variants.{Idle, Due, Waiting, BackingOff, Awaiting}
+use Rattle.reception.specs.declared.hearing.Hearing.{Hearing}
+use Rattle.reception.specs.declared.hearing.Single.{Single}
+use Rattle.reception.specs.declared.hearing.Single.the-variants.{Ack, Nak, Can}
+use Rattle.reception.specs.declared.hearing.End.{End}
+use Rattle.reception.specs.declared.hearing.End.the-variants as end
+use Rattle.reception.specs.declared.hearing.Event.{Event}
+use Rattle.reception.specs.declared.hearing.Event.the-variants.{Inside, Kept, Skipped, Alone, Ended, TickHunting, TickInside, Aborted}
+use Rattle.reception.specs.declared.hearing.Heard.{Heard}
+use Rattle.sending.specs.declared.job.Act.{Act}
+use Rattle.sending.specs.declared.job.Asking.{Asking}
+use Rattle.sending.specs.declared.job.Asking.the-variants.{Plain, Asks}
+use Rattle.sending.specs.declared.job.Job.{Job}
+use Rattle.sending.specs.declared.job.Job.the-variants.{Idle, Due, Waiting, BackingOff, Awaiting}
 use Rattle.link.specs.declared.report.Reception.{Reception}
 use Rattle.link.specs.declared.report.Reception.the-variants as reception
 use Rattle.link.specs.declared.report.Reply.{Reply}

@@ -5,7 +5,7 @@ use mathlib.Core.Path.{_≡_, refl, ap, _∙_}
 use mathlib.Core.List.{List, []}
 use lib.ListN.{length}
 use Rattle.frame.specs.Bytes.{over}
-use Rattle.link.specs.Rules.{Rules}
+use Rattle.sending.specs.Rules.{Rules}
 use Rattle.link.specs.Step.{Out, Taken, reportOf, runOut}
 use Rattle.link.specs.Calls.{Checked, passes, refuses, checks, answered, ran, left, Call as CallPromise, Run as RunPromise}
 use Rattle.link.specs.declared.calls.Answer.{Answer}

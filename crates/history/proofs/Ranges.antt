@@ -12,26 +12,26 @@ use borrow.Author.Tests.{ltb-true, ltb-false}
 use Rattle.frame.specs.Frame.{frameOf}
 use Rattle.frame.proofs.Over.{over-length}
 use Rattle.frame.proofs.Theorems.{frame-bounds}
-use Rattle.link.specs.Rules.{Rules, Cause, told, time, base, backOffs}
-use Rattle.link.specs.Hearing.{heardByte, heardTick, hunted, keep, isHunting}
-use Rattle.link.specs.Job.{start, lose, onSingle, onTick, onAbort, onEnd, release, awaits, act}
+use Rattle.sending.specs.Rules.{Rules, Cause, told, time, base, backOffs}
+use Rattle.reception.specs.Hearing.{heardByte, heardTick, hunted, keep, isHunting}
+use Rattle.sending.specs.Job.{start, lose, onSingle, onTick, onAbort, onEnd, release, awaits, act}
 use Rattle.link.specs.Report.{sumsEnd, sumsOn}
 use Rattle.link.specs.State.{noBody, noFrame}
 use Rattle.link.specs.Step.{Out, byteOut, tickOut, openOut}
-use Rattle.link.specs.declared.hearing.Hearing.{Hearing}
-use Rattle.link.specs.declared.hearing.Hearing.the-variants.{Hunting, Head, Body}
-use Rattle.link.specs.declared.hearing.Single.{Single}
-use Rattle.link.specs.declared.hearing.Single.the-variants.{Ack, Nak, Can}
-use Rattle.link.specs.declared.hearing.End.{End}
-use Rattle.link.specs.declared.hearing.End.the-variants as end
-use Rattle.link.specs.declared.hearing.Event.{Event}
-use Rattle.link.specs.declared.hearing.Event.the-variants.{Inside, Kept, Skipped, Alone, Ended, TickHunting, TickInside, Aborted}
-use Rattle.link.specs.declared.hearing.Heard.{Heard}
-use Rattle.link.specs.declared.job.Act.{Act}
-use Rattle.link.specs.declared.job.Asking.{Asking}
-use Rattle.link.specs.declared.job.Asking.the-variants.{Plain, Asks}
-use Rattle.link.specs.declared.job.Job.{Job}
-use Rattle.link.specs.declared.job.Job.the-variants.{Idle, Due, Waiting, BackingOff, Awaiting}
+use Rattle.reception.specs.declared.hearing.Hearing.{Hearing}
+use Rattle.reception.specs.declared.hearing.Hearing.the-variants.{Hunting, Head, Body}
+use Rattle.reception.specs.declared.hearing.Single.{Single}
+use Rattle.reception.specs.declared.hearing.Single.the-variants.{Ack, Nak, Can}
+use Rattle.reception.specs.declared.hearing.End.{End}
+use Rattle.reception.specs.declared.hearing.End.the-variants as end
+use Rattle.reception.specs.declared.hearing.Event.{Event}
+use Rattle.reception.specs.declared.hearing.Event.the-variants.{Inside, Kept, Skipped, Alone, Ended, TickHunting, TickInside, Aborted}
+use Rattle.reception.specs.declared.hearing.Heard.{Heard}
+use Rattle.sending.specs.declared.job.Act.{Act}
+use Rattle.sending.specs.declared.job.Asking.{Asking}
+use Rattle.sending.specs.declared.job.Asking.the-variants.{Plain, Asks}
+use Rattle.sending.specs.declared.job.Job.{Job}
+use Rattle.sending.specs.declared.job.Job.the-variants.{Idle, Due, Waiting, BackingOff, Awaiting}
 use Rattle.link.specs.declared.state.Link.{Link}
 use Rattle.history.specs.Calls.{Call}
 use Rattle.history.specs.History.{after}

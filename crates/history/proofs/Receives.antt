@@ -13,14 +13,14 @@ use Rattle.frame.specs.Pick.{pick}
 use Rattle.frame.specs.Bytes.{over, xorAll}
 use Rattle.frame.specs.Frame.{counted, checksum}
 use Rattle.frame.proofs.Over.{put-byte}
-use Rattle.link.specs.Rules.{Rules}
-use Rattle.link.specs.Hearing.{heard, begun, more, ended}
-use Rattle.link.specs.Job.{awaits, onEnd}
+use Rattle.sending.specs.Rules.{Rules}
+use Rattle.reception.specs.Hearing.{heard, begun, more, ended}
+use Rattle.sending.specs.Job.{awaits, onEnd}
 use Rattle.link.specs.Step.{Out, byteBy, byteOut}
-use Rattle.link.specs.declared.hearing.Partial.{Partial}
-use Rattle.link.specs.declared.hearing.Hearing.the-variants.{Hunting, Head, Body}
-use Rattle.link.specs.declared.hearing.End.the-variants as end
-use Rattle.link.specs.declared.hearing.Event.the-variants.{Inside, Kept, Ended}
+use Rattle.reception.specs.declared.hearing.Partial.{Partial}
+use Rattle.reception.specs.declared.hearing.Hearing.the-variants.{Hunting, Head, Body}
+use Rattle.reception.specs.declared.hearing.End.the-variants as end
+use Rattle.reception.specs.declared.hearing.Event.the-variants.{Inside, Kept, Ended}
 use Rattle.link.specs.declared.report.Reception.the-variants as reception
 use Rattle.link.specs.declared.state.Link.{Link}
 use Rattle.history.specs.Received.{feed}

@@ -7,12 +7,12 @@ use native.Mathlib.Omega.{arith}
 use lib.Dec.{eqb, ltb}
 use borrow.Author.Tests.{ltb-true}
 use Rattle.frame.specs.Pick.{pick}
-use Rattle.link.specs.Hearing.{heardByte, heardTick, hunted, clocked, later, isHunting}
-use Rattle.link.specs.declared.hearing.Hearing.{Hearing}
-use Rattle.link.specs.declared.hearing.Hearing.the-variants.{Hunting, Head, Body}
-use Rattle.link.specs.declared.hearing.Event.{Event}
-use Rattle.link.specs.declared.hearing.Event.the-variants.{Inside, Kept, Skipped, Alone, Ended, TickHunting, TickInside, Aborted}
-use Rattle.link.specs.declared.hearing.Heard.{Heard}
+use Rattle.reception.specs.Hearing.{heardByte, heardTick, hunted, clocked, later, isHunting}
+use Rattle.reception.specs.declared.hearing.Hearing.{Hearing}
+use Rattle.reception.specs.declared.hearing.Hearing.the-variants.{Hunting, Head, Body}
+use Rattle.reception.specs.declared.hearing.Event.{Event}
+use Rattle.reception.specs.declared.hearing.Event.the-variants.{Inside, Kept, Skipped, Alone, Ended, TickHunting, TickInside, Aborted}
+use Rattle.reception.specs.declared.hearing.Heard.{Heard}
 
 -- either way of a test
 pub pick-by : {A : Type 0} (P : A → Type 0) (x : Bool) (a b : A) → (x ≡ true → P a) → (x ≡ false → P b) → P (pick x a b)

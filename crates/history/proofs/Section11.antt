@@ -9,29 +9,29 @@ use lib.Dec.{ltb, eqb}
 use lib.ListN.{take}
 use borrow.Author.Tests.{ltb-true, ltb-false, lt-ltb, le-ltb, eq-eqb, ne-eqb}
 use Rattle.frame.specs.Pick.{pick}
-use Rattle.link.specs.Rules.{Rules}
-use Rattle.link.specs.Hearing.{heard, heardByte, heardTick, begun, more, ended}
-use Rattle.link.specs.Job.{nextCopy, putOut, release, awaits, onEnd, onTick, onAbort, act}
+use Rattle.sending.specs.Rules.{Rules}
+use Rattle.reception.specs.Hearing.{heard, heardByte, heardTick, begun, more, ended}
+use Rattle.sending.specs.Job.{nextCopy, putOut, release, awaits, onEnd, onTick, onAbort, act}
 use Rattle.link.specs.Report.{replyBytes, saidEnd, saidOn}
 use Rattle.link.specs.Step.{Out, out, decideOn, byteBy, byteOut, tickOut}
-use Rattle.link.specs.declared.hearing.Partial.{Partial}
-use Rattle.link.specs.declared.hearing.Hearing.{Hearing}
-use Rattle.link.specs.declared.hearing.Hearing.the-variants.{Hunting, Head, Body}
-use Rattle.link.specs.declared.hearing.End.{End}
-use Rattle.link.specs.declared.hearing.End.the-variants as end
-use Rattle.link.specs.declared.hearing.Event.the-variants.{Inside, Kept, Ended, TickInside, Aborted}
-use Rattle.link.specs.declared.hearing.Heard.{Heard}
-use Rattle.link.specs.declared.job.Act.{Act}
-use Rattle.link.specs.declared.job.Asking.{Asking}
-use Rattle.link.specs.declared.job.Job.{Job}
-use Rattle.link.specs.declared.job.Job.the-variants.{Idle, Due, Waiting, BackingOff, Awaiting}
+use Rattle.reception.specs.declared.hearing.Partial.{Partial}
+use Rattle.reception.specs.declared.hearing.Hearing.{Hearing}
+use Rattle.reception.specs.declared.hearing.Hearing.the-variants.{Hunting, Head, Body}
+use Rattle.reception.specs.declared.hearing.End.{End}
+use Rattle.reception.specs.declared.hearing.End.the-variants as end
+use Rattle.reception.specs.declared.hearing.Event.the-variants.{Inside, Kept, Ended, TickInside, Aborted}
+use Rattle.reception.specs.declared.hearing.Heard.{Heard}
+use Rattle.sending.specs.declared.job.Act.{Act}
+use Rattle.sending.specs.declared.job.Asking.{Asking}
+use Rattle.sending.specs.declared.job.Job.{Job}
+use Rattle.sending.specs.declared.job.Job.the-variants.{Idle, Due, Waiting, BackingOff, Awaiting}
 use Rattle.link.specs.declared.report.Reception.the-variants as reception
 use Rattle.link.specs.declared.report.Reply.{Reply}
 use Rattle.link.specs.declared.report.Reply.the-variants as reply
-use Rattle.link.specs.declared.report.Reset.the-variants as reset
-use Rattle.link.specs.declared.report.Sending.{Sending}
-use Rattle.link.specs.declared.report.Sending.the-variants as sending
-use Rattle.link.specs.declared.report.Session.the-variants as session
+use Rattle.sending.specs.declared.report.Reset.the-variants as reset
+use Rattle.sending.specs.declared.report.Sending.{Sending}
+use Rattle.sending.specs.declared.report.Sending.the-variants as sending
+use Rattle.sending.specs.declared.report.Session.the-variants as session
 use Rattle.link.specs.declared.state.Link.{Link}
 use Rattle.history.specs.Ranges.{IsInside}
 use Rattle.history.proofs.Reception.{pick-by, pick-ok}

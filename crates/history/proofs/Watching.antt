@@ -7,13 +7,13 @@ use mathlib.Core.List.{List, [], _∷_}
 use native.Mathlib.Omega.{arith}
 use native.Mathlib.Nat.{zero-add}
 use lib.ListN.{length, replicate, length-replicate}
-use Rattle.link.specs.Rules.{Rules}
-use Rattle.link.specs.Job.{copiesOf, isOpen}
+use Rattle.sending.specs.Rules.{Rules}
+use Rattle.sending.specs.Job.{copiesOf, isOpen}
 use Rattle.link.specs.Step.{Out}
 use Rattle.link.specs.Calls.{Checked, passes, refuses, roomChecks}
-use Rattle.link.specs.declared.hearing.Hearing.{Hearing}
-use Rattle.link.specs.declared.job.Asking.{Asking}
-use Rattle.link.specs.declared.job.Job.{Job}
+use Rattle.reception.specs.declared.hearing.Hearing.{Hearing}
+use Rattle.sending.specs.declared.job.Asking.{Asking}
+use Rattle.sending.specs.declared.job.Job.{Job}
 use Rattle.link.specs.declared.state.Link.{Link}
 use Rattle.history.specs.Calls.{What, byte, bytes, tick, send, session, restart, Call, checksOf, outOf, Done, refused, took, doneBy, perform}
 use Rattle.history.specs.History.{next, ticksOf, restartsOf, accepted, ticksIn, restartsIn}

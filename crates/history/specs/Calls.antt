@@ -5,10 +5,10 @@ use mathlib.Core.List.{List}
 use lib.ListN.{length}
 use Rattle.frame.specs.Frame.{frameOf}
 use Rattle.frame.specs.declared.refusal.Refusal.{Refusal}
-use Rattle.link.specs.Rules.{Rules}
+use Rattle.sending.specs.Rules.{Rules}
 use Rattle.link.specs.Step.{Out, byteOut, tickOut, openOut, restartOut, runOut}
 use Rattle.link.specs.Calls.{Checked, passes, refuses, roomChecks, sendChecks, sessionChecks}
-use Rattle.link.specs.declared.job.Asking.the-variants.{Plain, Asks}
+use Rattle.sending.specs.declared.job.Asking.the-variants.{Plain, Asks}
 use Rattle.link.specs.declared.state.Link.{Link}
 
 pub data What : Type 0 where

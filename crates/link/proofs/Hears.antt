@@ -1,76 +1,66 @@
 -- A run of bytes is heard, and the job acts once behind it.
---     hear-end, hear-more, hear-stop   `hearFrom` at what is left of the bytes
 --     byte-news                        a byte has news exactly if it is a single byte or ends a frame
 --     runs                             the run of bytes is what hearing alone reaches
 -- Assumes nothing.
 use mathlib.Core.Path.{_≡_, refl, sym, ap, _∙_}
 use mathlib.Core.Bool.{Bool, true, false}
 use mathlib.Core.List.{List, [], _∷_}
-use Prim.Native.Nat.{ℕ, _+_, _≤_, _<_}
-use native.Mathlib.Numerals.{add-one}
-use native.Mathlib.Omega.{arith}
+use Prim.Native.Nat.{ℕ, _+_}
 use lib.Dec.{ltb, eqb}
-use lib.ListN.{length, drop, getD, drop-of-length-le, length-set}
-use lib.Seq.{drop-cons}
 use Rattle.frame.specs.Pick.{pick}
-use Rattle.link.specs.declared.hearing.Event.{Event}
-use Rattle.link.specs.declared.hearing.Event.the-variants.{Inside, Kept, Skipped, Alone, Ended, TickHunting, TickInside, Aborted}
-use Rattle.link.specs.declared.hearing.End.{End}
-use Rattle.link.specs.declared.hearing.End.the-variants as end
-use Rattle.link.specs.declared.hearing.Heard.{Heard}
-use Rattle.link.specs.declared.hearing.Hearing.{Hearing}
-use Rattle.link.specs.declared.hearing.Hearing.the-variants.{Hunting, Head, Body}
-use Rattle.link.specs.declared.hearing.Single.{Single}
-use Rattle.link.specs.declared.hearing.Single.the-variants.{Ack, Nak, Can}
-use Rattle.link.specs.declared.job.Act.{Act}
-use Rattle.link.specs.declared.job.Asking.{Asking}
-use Rattle.link.specs.declared.job.Asking.the-variants.{Plain, Asks}
-use Rattle.link.specs.declared.job.Job.{Job}
-use Rattle.link.specs.declared.job.Job.the-variants.{Idle, Due, Waiting, BackingOff, Awaiting}
+use Rattle.reception.specs.declared.hearing.Event.{Event}
+use Rattle.reception.specs.declared.hearing.Event.the-variants.{Inside, Kept, Skipped, Alone, Ended, TickHunting, TickInside, Aborted}
+use Rattle.reception.specs.declared.hearing.End.{End}
+use Rattle.reception.specs.declared.hearing.End.the-variants as end
+use Rattle.reception.specs.declared.hearing.Heard.{Heard}
+use Rattle.reception.specs.declared.hearing.Hearing.{Hearing}
+use Rattle.reception.specs.declared.hearing.Hearing.the-variants.{Hunting, Head, Body}
+use Rattle.reception.specs.declared.hearing.Single.{Single}
+use Rattle.reception.specs.declared.hearing.Single.the-variants.{Ack, Nak, Can}
+use Rattle.sending.specs.declared.job.Act.{Act}
+use Rattle.sending.specs.declared.job.Asking.{Asking}
+use Rattle.sending.specs.declared.job.Asking.the-variants.{Plain, Asks}
+use Rattle.sending.specs.declared.job.Job.{Job}
+use Rattle.sending.specs.declared.job.Job.the-variants.{Idle, Due, Waiting, BackingOff, Awaiting}
 use Rattle.link.specs.declared.report.Reception.{Reception}
 use Rattle.link.specs.declared.report.Reception.the-variants as reception
 use Rattle.link.specs.declared.state.Core.{Core}
 use Rattle.link.specs.declared.state.Link.{Link}
-use Rattle.link.specs.Rules.{Rules, told}
-use Rattle.link.specs.Hearing.{heard, heardByte, keep}
-use Rattle.link.specs.Hearing as spec
-use Rattle.link.specs.Job.{awaits, lose, onSingle}
-use Rattle.link.specs.Report.{newsReception, newsSending, saidEnd}
+use Rattle.sending.specs.Rules.{Rules, told}
+use Rattle.reception.specs.Hearing.{heard, heardByte, heardTick, keep}
+use Rattle.reception.specs.Hearing as spec
+use Rattle.sending.specs.Job.{goesOn, awaits, lose, onSingle, onEnd}
+use Rattle.sending.specs.declared.report.Sending.the-variants as sending
+use Rattle.link.specs.Report.{either, newsReception, newsSending, saidEnd, saidOn}
+use Rattle.sending.specs.declared.report.Reset.{Reset}
+use Rattle.sending.specs.declared.report.Reset.the-variants as reset
 use Rattle.link.specs.Step.{Out, Taken, out, decideOn, byteOut, news, quiet, runFrom, runOut}
-use Rattle.link.specs.Run.{Far, newsByte, behind, hearFrom, start}
+use Rattle.reception.specs.Run.{Far, newsByte, behind, hearFrom, start}
+use Rattle.reception.proofs.Stages.{no}
 
 pick-ok : {A : Type 0} (P : A → Type 0) (x : Bool) (a b : A) → P a → P b → P (pick x a b)
 pick-ok P true a b p q = p
 pick-ok P false a b p q = q
 
--- ---- hearing at what is left
-module _ (f : Far) (i : ℕ) (bytes : List ℕ) where
-  abbrev next : Heard
-  next = heardByte (getD bytes i 0) (f .heard .hearing)
+-- with no job open no reset is the sender's
+pub either-none : (x : Reset) → either x reset.Nothing ≡ x
+either-none reset.Nothing = refl
+either-none reset.Sums = refl
+either-none reset.Delivery = refl
 
-  pub hear-end : length bytes ≤ i → hearFrom f (drop i bytes) ≡ f
-  unfolding hearFrom
-  hear-end h = simp (drop-of-length-le bytes h)
+-- nor is a frame's end
+pub idle-ended : (e : End) → onEnd e Idle ≡ goesOn Idle sending.Nothing
+idle-ended end.BadLength = refl
+idle-ended end.BadSum = refl
+idle-ended end.Reserved = refl
+idle-ended (end.Request size) = refl
+idle-ended (end.Response size command) = refl
 
-  pub hear-more : i < length bytes → newsByte (next .event) ≡ false
-      → hearFrom f (drop i bytes) ≡ hearFrom (behind next (f .body) (getD bytes i 0) (f .taken)) (drop (i + 1) bytes)
-  unfolding hearFrom
-  hear-more h e = rw (drop-cons bytes i 0 h) (simp (e, add-one))
-
-  pub hear-stop : i < length bytes → newsByte (next .event) ≡ true
-      → hearFrom f (drop i bytes) ≡ behind next (f .body) (getD bytes i 0) (f .taken)
-  unfolding hearFrom
-  hear-stop h e = rw (drop-cons bytes i 0 h) (simp e)
-
-pub keep-length : (e : Event) (b : ℕ) (body : List ℕ) → length (keep e b body) ≡ length body
-keep-length Inside b body = refl
-keep-length (Kept at) b body = length-set body at b
-keep-length Skipped b body = refl
-keep-length (Alone s) b body = refl
-keep-length (Ended e) b body = refl
-keep-length TickHunting b body = refl
-keep-length TickInside b body = refl
-keep-length Aborted b body = refl
+-- a tick hands nothing up
+pub tick-up : (h : Hearing) (j : Job) → saidOn (heardTick h .event) j .up ≡ 0
+tick-up Hunting j = refl
+tick-up (Head c) j = pick-ok (λ (x : Heard). saidOn (x .event) j .up ≡ 0) (ltb (c + 1) 1501) _ _ refl refl
+tick-up (Body p) j = pick-ok (λ (x : Heard). saidOn (x .event) j .up ≡ 0) (ltb (p .clock + 1) 1501) _ _ refl refl
 
 -- ---- which bytes have news
 lose-news : (R : Rules) (a : Asking) (n : ℕ) → newsSending (lose R told true a n .sending) ≡ true
@@ -118,9 +108,6 @@ module _ (R : Rules) (k : Core) (body frame : List ℕ) where
 -- the link l, heard as far as f
 abbrev pub reached : Rules → Link → Far → Taken
 reached R l f = record { out = out (f .body) (l .frame) (decideOn R (l .core) (f .heard)); taken = f .taken }
-
-pub no : true ≡ false → ⊥
-no e = let z : _≡_ {A = ℕ} 0 1 = cc in omega arith
 
 -- a byte without news leaves the job and the run of bad sums as they are
 calm : (R : Rules) (l : Link) (h : Hearing) (e : Event) (body : List ℕ) (n : ℕ) → newsByte e ≡ false

@@ -4,4 +4,3 @@ pub mod Ways
 pub mod Puts
 pub mod Theorems
 pub mod Hears
-pub mod Walks

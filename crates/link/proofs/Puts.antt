@@ -4,7 +4,7 @@ use mathlib.Core.Path.{_≡_, refl, sym, ap, _∙_}
 use mathlib.Core.Bool.{Bool}
 use mathlib.Core.List.{List, [], _∷_, _++_}
 use Prim.Native.Nat.{ℕ, _+_, _≤_, _<_, min}
-use native.Mathlib.Nat.{min-le-right}
+use native.Mathlib.Nat.{min-le-right, zero-add}
 use native.Mathlib.Omega.{arith}
 use lib.ListN.{length, take, length-append, length-take}
 use Rattle.frame.specs.Bytes.{over, Laid}
@@ -32,3 +32,9 @@ put-behind bs src lent size n at {lent₁} {lent₂} a l e room laid =
       count = simp (length-append, length-take, a, e);
       left = whole ∙ ap (λ (s : List ℕ). over (bs ++ s) lent) (ap (λ (k : ℕ). take k src) e ∙ take-min size src);
     }
+
+-- the first bytes of src, laid at the front
+pub put-front : (src lent : List ℕ) (size n : ℕ) {lent′ : List ℕ} {r : Bool} → n ≡ min size (length src) → length src ≤ length lent
+    → Laid src n lent 0 r lent′ → Put (take size src) lent n lent′
+put-front src lent size n e room laid =
+    simp zero-add at (put-behind [] src lent size n 0 refl refl e (omega arith) laid)

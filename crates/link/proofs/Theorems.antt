@@ -8,12 +8,12 @@ use mathlib.Core.Path.{_≡_}
 use mathlib.Core.List.{List}
 use Prim.Native.Nat.{ℕ}
 use Rattle.frame.proofs.Theorems.{fixed}
-use Rattle.link.specs.declared.hearing.Heard.{Heard}
-use Rattle.link.specs.declared.hearing.Hearing.{Hearing}
+use Rattle.reception.specs.declared.hearing.Heard.{Heard}
+use Rattle.reception.specs.declared.hearing.Hearing.{Hearing}
 use Rattle.link.specs.declared.state.Link.{Link}
 use Rattle.link.specs.declared.calls.Answered.{Answered}
 use Rattle.link.specs.declared.calls.Ran.{Ran}
-use Rattle.link.specs.Hearing.{heardByte, heardTick}
+use Rattle.reception.specs.Hearing.{heardByte, heardTick}
 use Rattle.link.specs.State.{freshLink}
 use Rattle.link.specs.Step.{Out, Taken}
 use Rattle.link.specs.Calls.{Checked, Call, Run}

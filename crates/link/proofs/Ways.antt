@@ -1,6 +1,6 @@
 -- A link call, by its ways out: too short a line, too short a buffer for the frame, a refusal of its own, or what `emit` leaves.
 -- Assumes nothing.
-use mathlib.Core.Path.{_≡_, refl, sym, ap, _∙_}
+use mathlib.Core.Path.{_≡_, subst, _∙_}
 use mathlib.Core.Bool.{true, false}
 use mathlib.Core.List.{List}
 use Prim.Native.Nat.{ℕ, _≤_, _<_}
@@ -14,9 +14,9 @@ use Rattle.link.specs.declared.calls.Answer.the-variants as answer
 use Rattle.link.specs.declared.calls.Answered.{Answered}
 use Rattle.link.specs.declared.calls.RunAnswer.the-variants as run
 use Rattle.link.specs.declared.calls.Ran.{Ran}
-use Rattle.link.specs.declared.state.Stretch.{Stretch}
-use Rattle.link.specs.Step.{Out, Taken, stepOut, taking}
-use Rattle.link.specs.Calls.{Checked, passes, refuses, checks, Call, Run, Written}
+use Rattle.frame.specs.Bytes.{over}
+use Rattle.link.specs.Step.{Out, Taken, reportOf}
+use Rattle.link.specs.Calls.{Checked, passes, refuses, checks, Call, Run, Emitted}
 
 -- the checks of a call, by how much room there is
 module _ (line up : List ℕ) (own : Checked) where
@@ -36,27 +36,24 @@ module _ (own : Checked) (o : Out) (l : Link) (line up : List ℕ) where
   pub refuse : {k : Refusal} {r : Answered} → checks line up own ≡ refuses k → r ≡ no l k → Call own o l line up r line up
   refuse e x = record { answer = simp e x; line-left = simp e; up-left = simp e }
 
-  pub give : {r : Answered} {p : Report} {line′ up′ : List ℕ} → checks line up own ≡ passes
-      → r ≡ record { link = o .link; answer = answer.Done p } → Written o line up p line′ up′ → Call own o l line up r line′ up′
-  give e x w = record { answer = simp e (x ∙ ap (λ (q : Report). record { link = o .link; answer = answer.Done q }) (w .report)); line-left = simp e (w .line-left); up-left = simp e (w .up-left) }
+  pub give : {r : Answered} {line′ up′ : List ℕ} → checks line up own ≡ passes → r ≡ record { link = o .link; answer = answer.Done (reportOf o) }
+      → line′ ≡ over (o .line) line → up′ ≡ over (o .up) up → Call own o l line up r line′ up′
+  give e x y z = record { answer = simp e x; line-left = simp e y; up-left = simp e z }
 
-  -- from what `emit` leaves of a step that gives o
-  pub accept : {q : Out} {m : Link} {r : Answered} {line′ up′ : List ℕ} → 258 ≤ length line → 254 ≤ length up → own ≡ passes → q ≡ o
-      → Call passes q m line up r line′ up′ → Call own o l line up r line′ up′
+  -- from what `emit` leaves of a call that gives o and hands nothing up
+  pub accept : {q : Out} {r : Answered} {line′ : List ℕ} → 258 ≤ length line → 254 ≤ length up → own ≡ passes → q ≡ o
+      → Emitted q line r line′ → Call own o l line up r line′ up
   accept h k e x w =
       let f = roomy line up own h k ∙ e in
-      let g = roomy line up passes h k in
-      record { answer = simp f (simp (g, x) at (w .answer)); line-left = simp f (simp (g, x) at (w .line-left)); up-left = simp f (simp (g, x) at (w .up-left)) }
+      record { answer = simp f (simp x at (w .answer)); line-left = simp f (simp x at (w .line-left)); up-left = simp (f, simp x at (w .none-up)) }
+
+pub emitted-are : {q o : Out} {line : List ℕ} {r : Answered} {line′ : List ℕ} → q ≡ o → Emitted q line r line′ → Emitted o line r line′
+emitted-are {q} {o} {line} {r} {line′} x w = subst (λ (z : Out). Emitted z line r line′) x w
 
 module _ (t : Taken) (l : Link) (line up : List ℕ) where
   pub refuse-run : checks line up passes ≡ refuses Room → Run t l line up (record { link = l; answer = run.Refused Room }) line up
   refuse-run e = record { answer = simp e; line-left = simp e; up-left = simp e }
 
-  pub give-run : (s : Stretch) {m : Link} {p : Report} {line′ up′ : List ℕ} → checks line up passes ≡ passes → taking s ≡ t → m ≡ stepOut (s .step) .link
-      → Written (stepOut (s .step)) line up p line′ up′ → Run t l line up (record { link = m; answer = run.Done p (s .taken) }) line′ up′
-  give-run s e x y w =
-      record {
-        answer = simp (e, ← x) (simp (y, w .report));
-        line-left = simp (e, ← x) (w .line-left);
-        up-left = simp (e, ← x) (w .up-left);
-      }
+  pub give-run : {r : Ran} {line′ up′ : List ℕ} → checks line up passes ≡ passes → r ≡ record { link = t .out .link; answer = run.Done (reportOf (t .out)) (t .taken) }
+      → line′ ≡ over (t .out .line) line → up′ ≡ over (t .out .up) up → Run t l line up r line′ up′
+  give-run e x y z = record { answer = simp e x; line-left = simp e y; up-left = simp e z }

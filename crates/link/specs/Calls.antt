@@ -3,7 +3,7 @@
 use Prim.Native.Nat.{ℕ}
 use mathlib.Core.Path.{_≡_}
 use mathlib.Core.Bool.{Bool, true, false}
-use mathlib.Core.List.{List}
+use mathlib.Core.List.{List, []}
 use lib.Dec.{ltb}
 use lib.ListN.{length}
 use Rattle.frame.specs.Pick.{pick}
@@ -11,8 +11,7 @@ use Rattle.frame.specs.Bytes.{over}
 use Rattle.frame.specs.Frame.{frameOf}
 use Rattle.frame.specs.declared.refusal.Refusal.{Refusal}
 use Rattle.frame.specs.declared.refusal.Refusal.the-variants.{Room, Busy, Kind, Long}
-use Rattle.link.specs.Rules.{Rules}
-use Rattle.link.specs.Job.{isOpen}
+use Rattle.sending.specs.Job.{isOpen}
 use Rattle.link.specs.Step.{Out, Taken, reportOf}
 use Rattle.link.specs.declared.report.Report.{Report}
 use Rattle.link.specs.declared.state.Link.{Link}
@@ -65,11 +64,11 @@ pub record Put (bytes lent : List ℕ) (r : ℕ) (lent′ : List ℕ) : Type 0 w
   pub count : r ≡ length bytes
   pub left : lent′ ≡ over bytes lent
 
--- both buffers written, and the report
-pub record Written (o : Out) (line up : List ℕ) (r : Report) (line′ up′ : List ℕ) : Type 0 where
-  pub report : r ≡ reportOf o
+-- an accepted call that hands nothing up
+pub record Emitted (o : Out) (line : List ℕ) (r : Answered) (line′ : List ℕ) : Type 0 where
+  pub answer : r ≡ record { link = o .link; answer = answer.Done (reportOf o) }
   pub line-left : line′ ≡ over (o .line) line
-  pub up-left : up′ ≡ over (o .up) up
+  pub none-up : o .up ≡ []
 
 -- the promise of a link call with these checks of its own, that gives o on the link l
 pub record Call (own : Checked) (o : Out) (l : Link) (line up : List ℕ) (r : Answered) (line′ up′ : List ℕ) : Type 0 where

@@ -3,8 +3,8 @@
 use Prim.Native.Nat.{ℕ}
 use mathlib.Core.List.{List}
 use lib.ListN.{replicate}
-use Rattle.link.specs.declared.hearing.Hearing.the-variants.{Hunting}
-use Rattle.link.specs.declared.job.Job.the-variants.{Idle}
+use Rattle.reception.specs.declared.hearing.Hearing.the-variants.{Hunting}
+use Rattle.sending.specs.declared.job.Job.the-variants.{Idle}
 use Rattle.link.specs.declared.state.Core.{Core}
 use Rattle.link.specs.declared.state.Link.{Link}
 

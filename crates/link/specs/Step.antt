@@ -6,31 +6,32 @@ use mathlib.Core.List.{List, [], _∷_, _++_}
 use lib.ListN.{length, take}
 use Rattle.frame.specs.Pick.{pick}
 use Rattle.frame.specs.Bytes.{over}
-use Rattle.link.specs.Rules.{Rules}
-use Rattle.link.specs.Hearing.{heardByte, heardTick, keep, isHunting}
-use Rattle.link.specs.Job.{act, start, still, onRestart}
+use Rattle.sending.specs.Rules.{Rules}
+use Rattle.reception.specs.Hearing.{heardByte, heardTick, keep, isHunting}
+use Rattle.sending.specs.Job.{act, start, still, onRestart}
 use Rattle.link.specs.Report.{replyBytes, said, saidOn, sums, sumsOn, either, newsReception, newsSending, newsSession, newsReset}
 use Rattle.link.specs.State.{freshCore, freshLink}
-use Rattle.link.specs.declared.hearing.Heard.{Heard}
-use Rattle.link.specs.declared.hearing.Hearing.{Hearing}
-use Rattle.link.specs.declared.job.Act.{Act}
-use Rattle.link.specs.declared.job.Asking.{Asking}
-use Rattle.link.specs.declared.job.Job.{Job}
+use Rattle.reception.specs.declared.hearing.Event.{Event}
+use Rattle.reception.specs.declared.hearing.Heard.{Heard}
+use Rattle.reception.specs.declared.hearing.Hearing.{Hearing}
+use Rattle.sending.specs.declared.job.Act.{Act}
+use Rattle.sending.specs.declared.job.Asking.{Asking}
+use Rattle.sending.specs.declared.job.Job.{Job}
+use Rattle.sending.specs.declared.job.Job.the-variants.{Idle}
 use Rattle.link.specs.declared.report.Reception.{Reception}
 use Rattle.link.specs.declared.report.Reception.the-variants as reception
+use Rattle.link.specs.declared.report.Reply.{Reply}
 use Rattle.link.specs.declared.report.Reply.the-variants.{Silent, Nak}
-use Rattle.link.specs.declared.report.Reset.{Reset}
-use Rattle.link.specs.declared.report.Reset.the-variants as reset
-use Rattle.link.specs.declared.report.Sending.{Sending}
-use Rattle.link.specs.declared.report.Session.{Session}
+use Rattle.sending.specs.declared.report.Reset.{Reset}
+use Rattle.sending.specs.declared.report.Reset.the-variants as reset
+use Rattle.sending.specs.declared.report.Sending.{Sending}
+use Rattle.sending.specs.declared.report.Session.{Session}
 use Rattle.link.specs.declared.report.Said.{Said}
 use Rattle.link.specs.declared.report.Sums.{Sums}
 use Rattle.link.specs.declared.report.Report.{Report}
 use Rattle.link.specs.declared.state.Core.{Core}
-use Rattle.link.specs.declared.state.Decision.{Decision}
 use Rattle.link.specs.declared.state.Link.{Link}
-use Rattle.link.specs.declared.state.Step.{Step}
-use Rattle.link.specs.declared.state.Stretch.{Stretch}
+use Rattle.link.specs.declared.step.Outcome.{Outcome}
 
 -- what an accepted call gives: the next link, the four parts, the bytes for the line and those handed up
 pub record Out : Type 0 where
@@ -53,6 +54,19 @@ reportOf o =
       line = length (o .line);
       up = length (o .up);
     }
+
+-- what a call decides, before a lent byte is written
+pub record Decision : Type 0 where
+  pub core : Core
+  pub reception : Reception
+  pub sending : Sending
+  pub session : Session
+  pub reset : Reset
+  -- the single byte put out, and whether a copy follows it
+  pub reply : Reply
+  pub copy : Bool
+  -- the number of body bytes handed up
+  pub up : ℕ
 
 -- the numbers decided: hearing, what reception says, the run of bad sums, and the job's act
 abbrev pub decided : Hearing → ℕ → Said → Sums → Act → Decision
@@ -85,10 +99,6 @@ out body frame d =
       line = replyBytes (d .reply) ++ pick (d .copy) (take (d .core .size) frame) [];
       up = take (d .up) body;
     }
-
--- the same of a step of the code
-abbrev pub stepOut : Step → Out
-stepOut s = out (s .body) (s .frame) (s .decision)
 
 abbrev pub byteBy : Rules → Link → ℕ → Heard → Out
 byteBy R l b h = out (keep (h .event) b (l .body)) (l .frame) (decideOn R (l .core) h)
@@ -139,10 +149,6 @@ pub record Taken : Type 0 where
   pub out : Out
   pub taken : ℕ
 
--- the same of a stretch of bytes taken by the code
-abbrev pub taking : Stretch → Taken
-taking s = record { out = stepOut (s .step); taken = s .taken }
-
 -- A run of bytes stops behind the first byte whose report is news and says how many were taken.
 -- Here o is what the last byte gave, with n taken.
 unfoldable pub runFrom : Rules → Out → ℕ → List ℕ → Taken
@@ -154,3 +160,54 @@ runFrom R o n (b ∷ bs) =
 -- An empty run takes 0 and reports nothing.
 abbrev pub runOut : Rules → Link → List ℕ → Taken
 runOut R l bytes = runFrom R (quiet l) 0 bytes
+
+-- What the code decides apart from hearing and the held frame's length; with them it is the decision above.
+abbrev pub outcome : Said → Sums → Act → Outcome
+outcome q z a =
+    record {
+      job = a .job;
+      bad = z .bad;
+      reception = q .reception;
+      sending = a .sending;
+      session = a .session;
+      reset = either (z .reset) (a .reset);
+      reply = q .reply;
+      copy = a .copy;
+      up = q .up;
+    }
+
+abbrev pub outcomeOn : Rules → ℕ → Event → Job → ℕ → Outcome
+outcomeOn R size e j bad = outcome (saidOn e j) (sumsOn e bad) (act R size e j)
+
+abbrev pub told : Reception → ℕ → Act → Outcome
+told r bad a = outcome (said r Silent 0) (sums bad reset.Nothing) a
+
+abbrev pub restarting : Act → Outcome
+restarting a =
+    record {
+      job = Idle;
+      bad = 0;
+      reception = reception.Nothing;
+      sending = a .sending;
+      session = a .session;
+      reset = reset.Nothing;
+      reply = Nak;
+      copy = false;
+      up = 0;
+    }
+
+abbrev pub decision : Hearing → ℕ → Outcome → Decision
+decision h size o =
+    record {
+      core = record { hearing = h; job = o .job; bad = o .bad; size = size };
+      reception = o .reception;
+      sending = o .sending;
+      session = o .session;
+      reset = o .reset;
+      reply = o .reply;
+      copy = o .copy;
+      up = o .up;
+    }
+
+abbrev pub reported : Outcome → ℕ → ℕ → Report
+reported o line up = record { reception = o .reception; sending = o .sending; session = o .session; reset = o .reset; line = line; up = up }

@@ -1,25 +1,34 @@
 // The public calls of the link (section 3).
+use crate::emit::core_of;
 use crate::emit::emit;
-use crate::emit::written;
-use crate::job::Asking;
-use crate::job::is_open;
+use crate::emit::put_line;
+use crate::emit::put_up;
+use crate::emit::report_of;
 use crate::report::Report;
-use crate::run::run_step;
 use crate::state::Link;
-use crate::step::byte_step;
-use crate::step::link_of;
-use crate::step::open_step;
-use crate::step::restart_step;
-use crate::step::tick_step;
+use crate::step::decide;
+use crate::step::decide_on;
+use crate::step::decide_tick;
+use crate::step::opening;
+use crate::step::restarting;
 use frame::Refusal;
+use reception::Hearing;
+use reception::hear_byte;
+use reception::hear_run;
+use reception::hear_tick;
+use reception::is_hunting;
+use reception::keep;
+use sending::Asking;
+use sending::is_open;
 ghost use mathlib.Core.Path.{_≡_};
+ghost use Prim.Native.Nat.{_≤_};
 ghost use lib.ListN.{length};
 ghost use Rattle.frame.specs.Frame.{frameOf};
-ghost use Rattle.link.specs.declared.job.Asking.the-variants.{Plain, Asks};
+ghost use Rattle.sending.specs.declared.job.Asking.the-variants.{Plain, Asks};
+ghost use Rattle.sending.specs.Rules.{base};
 ghost use Rattle.link.specs.declared.calls.Answer.the-variants as answer;
-ghost use Rattle.link.specs.Rules.{base};
 ghost use Rattle.link.specs.Step.{byteOut, tickOut, openOut, restartOut, runOut};
-ghost use Rattle.link.specs.Calls.{Call, Run, sendChecks, sessionChecks, passes};
+ghost use Rattle.link.specs.Calls.{Call, Run, Emitted, sendChecks, sessionChecks, passes};
 
 pub enum Answer {
     Refused(Refusal),
@@ -52,6 +61,33 @@ fn refused(link: Link, refusal: Refusal) -> Answered
     }
 }
 
+// An accepted send or session: the frame is built into the held one.
+fn opened(
+    link: Link,
+    asking: Asking,
+    kind: u8,
+    command: u8,
+    parameters: &[u8],
+    line: &mut [u8],
+) -> Answered
+    requires { ⌜ (258 ≤ length (now line)) × (kind ≤ 1) × (length (now parameters) ≤ 252) ⌝ }
+    ensures { λ r. ⌜ Emitted (openOut link asking (frameOf kind command (now (parameters .entry)))) (now (line .entry)) r (now (line .exit)) ⌝ }
+{
+    let core = link.core;
+    let body = link.body;
+    let mut frame = link.frame;
+    let hearing = core.hearing;
+    let size = (parameters.len() + 5) as u16;
+    frame::build(kind, command, parameters, &mut frame);
+    let outcome = opening(is_hunting(hearing), asking, core.bad);
+    let held = Link {
+        core: core,
+        body: body,
+        frame: frame,
+    };
+    emit(held, outcome, hearing, size, line)
+}
+
 impl Link {
     // One received byte.
     pub fn byte(self, b: u8, line: &mut [u8], up: &mut [u8]) -> Answered
@@ -63,8 +99,24 @@ impl Link {
         if up.len() < 254 {
             return refused(self, Refusal::Room);
         }
-        let step = byte_step(self, b);
-        emit(step, line, up)
+        let core = self.core;
+        let before = core.hearing;
+        let job = core.job;
+        let heard = hear_byte(before, b);
+        let hearing = heard.hearing;
+        let event = heard.event;
+        let outcome = decide_on(job, core.bad, core.size, event);
+        let mut link = self;
+        keep(&mut link.body, event, b);
+        let n = put_line(outcome, core.size, &link.frame, line);
+        let k = put_up(&link.body, outcome.up, up);
+        let report = report_of(outcome, n, k);
+        let next = core_of(outcome, hearing, core.size);
+        link.core = next;
+        Answered {
+            link: link,
+            answer: Answer::Done(report),
+        }
     }
 
     // A run of bytes, up to the first that has news.
@@ -83,13 +135,22 @@ impl Link {
                 answer: RunAnswer::Refused(Refusal::Room),
             };
         }
-        let stretch = run_step(self, bytes);
-        let step = stretch.step;
-        let link = link_of(step);
-        let report = written(step, line, up);
+        let core = self.core;
+        let before = core.hearing;
+        let job = core.job;
+        let mut link = self;
+        let reach = hear_run(before, bytes, &mut link.body);
+        let hearing = reach.hearing;
+        let event = reach.event;
+        let outcome = decide(job, core.bad, core.size, event);
+        let n = put_line(outcome, core.size, &link.frame, line);
+        let k = put_up(&link.body, outcome.up, up);
+        let report = report_of(outcome, n, k);
+        let next = core_of(outcome, hearing, core.size);
+        link.core = next;
         Ran {
             link: link,
-            answer: RunAnswer::Done(report, stretch.taken),
+            answer: RunAnswer::Done(report, reach.taken),
         }
     }
 
@@ -103,8 +164,14 @@ impl Link {
         if up.len() < 254 {
             return refused(self, Refusal::Room);
         }
-        let step = tick_step(self);
-        emit(step, line, up)
+        let core = self.core;
+        let before = core.hearing;
+        let job = core.job;
+        let heard = hear_tick(before);
+        let hearing = heard.hearing;
+        let event = heard.event;
+        let outcome = decide_tick(job, core.bad, core.size, event);
+        emit(self, outcome, hearing, core.size, line)
     }
 
     // Sends a frame of this type, command and parameters.
@@ -135,8 +202,7 @@ impl Link {
         if 252 < parameters.len() {
             return refused(self, Refusal::Long);
         }
-        let step = open_step(self, Asking::Plain, kind, command, parameters);
-        emit(step, line, up)
+        opened(self, Asking::Plain, kind, command, parameters, line)
     }
 
     // Sends a request that stays open after its ACK, until its response.
@@ -157,14 +223,14 @@ impl Link {
         if 252 < parameters.len() {
             return refused(self, Refusal::Long);
         }
-        let step = open_step(
+        opened(
             self,
             Asking::Asks { command: command },
             0,
             command,
             parameters,
-        );
-        emit(step, line, up)
+            line,
+        )
     }
 
     // A fresh link; 15 is put out, and an open send or session is abandoned.
@@ -177,7 +243,10 @@ impl Link {
         if up.len() < 254 {
             return refused(self, Refusal::Room);
         }
-        let step = restart_step(self);
-        emit(step, line, up)
+        let core = self.core;
+        let job = core.job;
+        let fresh = Link::open();
+        let outcome = restarting(job);
+        emit(fresh, outcome, Hearing::Hunting, 0, line)
     }
 }

@@ -1,15 +1,17 @@
-// The report (section 7): four parts, each a case with its own data, and the numbers of bytes.
-use crate::hearing::End;
-use crate::hearing::Event;
-use crate::job::Job;
-use crate::job::awaits;
-use units::Millis;
+// The report (section 7): four parts, each a case with its own data, and the numbers of bytes. What reception says of an event.
+use reception::End;
+use reception::Event;
+use sending::Job;
+use sending::Reset;
+use sending::Sending;
+use sending::Session;
+use sending::awaits;
 ghost use mathlib.Core.Path.{_≡_};
 ghost use Rattle.frame.specs.Pick.{pick};
 ghost use Rattle.link.specs.Report as spec;
 ghost use Rattle.link.specs.declared.report.Reply.the-variants.{Silent, Ack};
 ghost use Rattle.link.specs.declared.report.Reception.the-variants as reception;
-ghost use Rattle.link.specs.Job as jobs;
+ghost use Rattle.sending.specs.Job as jobs;
 
 pub enum Reception {
     Nothing,
@@ -20,35 +22,6 @@ pub enum Reception {
     BadSum,
     Abort,
     StrayResponse,
-}
-
-pub enum Sending {
-    Nothing,
-    Stray,
-    Due,
-    // The number of the copy put out.
-    Copy(u8),
-    BackingOff(Millis),
-    // With the number of copies.
-    Acknowledged(u8),
-    Failed(u8),
-    Abandoned,
-}
-
-pub enum Session {
-    Nothing,
-    Waiting,
-    // The verdicts, with the number of copies.
-    Response(u8),
-    NoResponse(u8),
-    NotSent(u8),
-    Abandoned,
-}
-
-pub enum Reset {
-    Nothing,
-    Sums,
-    Delivery,
 }
 
 pub struct Report {

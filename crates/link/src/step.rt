@@ -1,44 +1,52 @@
-// One step of the link, on values alone: hearing's event, the job's act on it, and the numbers decided.
-use crate::hearing::Event;
-use crate::hearing::Heard;
-use crate::hearing::Hearing;
-use crate::hearing::hear_byte;
-use crate::hearing::hear_tick;
-use crate::hearing::is_hunting;
-use crate::job::Act;
-use crate::job::Asking;
-use crate::job::goes_on;
-use crate::job::on_event;
-use crate::job::on_restart;
-use crate::job::start;
+// One step of the link, on numbers alone: what reception says of an event, the run of bad sums, and the job's act on it.
+// Hearing is no part of it: that way it stays in registers while a call decides.
 use crate::report::Reception;
 use crate::report::Reply;
-use crate::report::Reset;
 use crate::report::Said;
-use crate::report::Sending;
 use crate::report::Sums;
 use crate::report::either;
 use crate::report::run_of;
 use crate::report::said_on;
 use crate::report::saying;
 use crate::report::sums_on;
-use crate::state::Core;
-use crate::state::Decision;
-use crate::state::Link;
-use crate::state::Step;
-use crate::state::Stretch;
-use crate::state::fresh_core;
+use reception::Event;
+use sending::Act;
+use sending::Asking;
+use sending::Job;
+use sending::Reset;
+use sending::Sending;
+use sending::Session;
+use sending::on_abort;
+use sending::on_event;
+use sending::on_restart;
+use sending::on_tick;
+use sending::start;
 ghost use mathlib.Core.Path.{_≡_};
-ghost use Prim.Native.Nat.{_≤_};
-ghost use lib.ListN.{length, set};
-ghost use Rattle.frame.specs.Frame.{frameOf};
-ghost use Rattle.link.specs.Rules.{base};
-ghost use Rattle.link.specs.Hearing as hearing;
-ghost use Rattle.link.specs.Job as jobs;
+ghost use Prim.Native.Nat.{ℕ};
+ghost use Rattle.sending.specs.Rules.{base};
+ghost use Rattle.sending.specs.Job as jobs;
+ghost use Rattle.sending.specs.declared.job.Job.the-variants as job;
 ghost use Rattle.link.specs.Step as spec;
+ghost use Rattle.link.specs.declared.report.Reception.the-variants as reception;
 
-fn decided(hearing: Hearing, size: u16, said: Said, sums: Sums, act: Act) -> Decision
-    ensures { λ r. ⌜ r ≡ spec.decided hearing size said sums act ⌝ }
+// What a call decides, before a lent byte is written; hearing and the held frame's length stand beside it.
+pub struct Outcome {
+    pub job: Job,
+    // The run of bad sums.
+    pub bad: u8,
+    pub reception: Reception,
+    pub sending: Sending,
+    pub session: Session,
+    pub reset: Reset,
+    // The single byte put out, and whether a copy follows it.
+    pub reply: Reply,
+    pub copy: bool,
+    // The number of body bytes handed up.
+    pub up: u8,
+}
+
+fn decided(said: Said, sums: Sums, act: Act) -> Outcome
+    ensures { λ r. ⌜ r ≡ spec.outcome said sums act ⌝ }
 {
     let job = act.job;
     let reception = said.reception;
@@ -48,13 +56,9 @@ fn decided(hearing: Hearing, size: u16, said: Said, sums: Sums, act: Act) -> Dec
     let bad_sums = sums.reset;
     let delivery = act.reset;
     let reset = either(bad_sums, delivery);
-    Decision {
-        core: Core {
-            hearing: hearing,
-            job: job,
-            bad: sums.bad,
-            size: size,
-        },
+    Outcome {
+        job: job,
+        bad: sums.bad,
         reception: reception,
         sending: sending,
         session: session,
@@ -65,147 +69,133 @@ fn decided(hearing: Hearing, size: u16, said: Said, sums: Sums, act: Act) -> Dec
     }
 }
 
-// A byte or a tick: reception first, then the sender and the session.
-pub fn decide_on(core: Core, heard: Heard) -> Decision
-    ensures { λ r. ⌜ r ≡ spec.decideOn base core heard ⌝ }
+// A byte: reception first, then the sender and the session.
+pub fn decide_on(job: Job, bad: u8, size: u16, event: Event) -> Outcome
+    ensures { λ r. ⌜ r ≡ spec.outcomeOn base size event job bad ⌝ }
 {
-    let job = core.job;
-    let hearing = heard.hearing;
-    let event = heard.event;
     let said = said_on(event, job);
-    let sums = sums_on(event, core.bad);
-    let act = on_event(core.size, event, job);
-    decided(hearing, core.size, said, sums, act)
+    let sums = sums_on(event, bad);
+    let act = on_event(size, event, job);
+    decided(said, sums, act)
 }
 
-// A body byte is kept at its place. The guard is for links that no call makes.
-fn store(body: &mut [u8], at: u8, b: u8)
-    ensures { λ _. ⌜ now (body .exit) ≡ set (now (body .entry)) at b ⌝ }
-{
-    let i = at as usize;
-    if i < body.len() {
-        body[i] = b;
-    }
-}
-
-pub fn keep(body: &mut [u8], event: Event, b: u8)
-    ensures { λ _. ⌜ now (body .exit) ≡ hearing.keep event b (now (body .entry)) ⌝ }
+// With no job open, 06, 15 and 18 are stray, and nothing else concerns the sender.
+fn stray_on(event: Event) -> Sending
+    ensures { λ r. ⌜ ((size : ℕ) → jobs.act base size event job.Idle ≡ jobs.goesOn job.Idle r) ⌝ }
 {
     match event {
-        Event::Inside => {}
-        Event::Kept { at } => store(body, at, b),
-        Event::Skipped => {}
-        Event::Alone(_) => {}
-        Event::Ended(_) => {}
-        Event::TickHunting => {}
-        Event::TickInside => {}
-        Event::Aborted => {}
+        Event::Inside => Sending::Nothing,
+        Event::Kept { at: _ } => Sending::Nothing,
+        Event::Skipped => Sending::Nothing,
+        Event::Alone(_) => Sending::Stray,
+        Event::Ended(_) => Sending::Nothing,
+        Event::TickHunting => Sending::Nothing,
+        Event::TickInside => Sending::Nothing,
+        Event::Aborted => Sending::Nothing,
     }
 }
 
-// One received byte.
-pub fn byte_step(link: Link, b: u8) -> Step
-    ensures { λ r. ⌜ spec.stepOut r ≡ spec.byteOut base link b ⌝ }
+// The same as `decide_on` with no job open: short, and what a run of bytes mostly meets.
+fn decide_idle(bad: u8, event: Event) -> Outcome
+    ensures { λ r. ⌜ ((size : ℕ) → r ≡ spec.outcomeOn base size event job.Idle bad) ⌝ }
 {
-    let core = link.core;
-    let frame = link.frame;
-    let mut body = link.body;
-    let before = core.hearing;
-    let heard = hear_byte(before, b);
-    let event = heard.event;
-    keep(&mut body, event, b);
-    let decision = decide_on(core, heard);
-    Step {
-        body: body,
-        frame: frame,
-        decision: decision,
+    let said = said_on(event, Job::Idle);
+    let sums = sums_on(event, bad);
+    let sending = stray_on(event);
+    let reception = said.reception;
+    let reply = said.reply;
+    let reset = sums.reset;
+    Outcome {
+        job: Job::Idle,
+        bad: sums.bad,
+        reception: reception,
+        sending: sending,
+        session: Session::Nothing,
+        reset: reset,
+        reply: reply,
+        copy: false,
+        up: said.up,
     }
 }
 
-// One tick.
-pub fn tick_step(link: Link) -> Step
-    ensures { λ r. ⌜ spec.stepOut r ≡ spec.tickOut base link ⌝ }
+// The same by whether a job is open.
+pub fn decide(job: Job, bad: u8, size: u16, event: Event) -> Outcome
+    ensures { λ r. ⌜ r ≡ spec.outcomeOn base size event job bad ⌝ }
 {
-    let core = link.core;
-    let frame = link.frame;
-    let body = link.body;
-    let before = core.hearing;
-    let heard = hear_tick(before);
-    let decision = decide_on(core, heard);
-    Step {
-        body: body,
-        frame: frame,
-        decision: decision,
+    match job {
+        Job::Idle => decide_idle(bad, event),
+        Job::Due {
+            asking: _,
+            copies: _,
+        } => decide_on(job, bad, size, event),
+        Job::Waiting {
+            asking: _,
+            copies: _,
+            elapsed: _,
+        } => decide_on(job, bad, size, event),
+        Job::BackingOff {
+            asking: _,
+            copies: _,
+            left: _,
+        } => decide_on(job, bad, size, event),
+        Job::Awaiting {
+            command: _,
+            copies: _,
+            elapsed: _,
+        } => decide_on(job, bad, size, event),
     }
 }
 
-// The numbers of an accepted send or session: copy 1 goes out if hunting, else it is due.
-fn opening(core: Core, asking: Asking, size: u16) -> Decision
-    ensures { λ r. ⌜ r ≡ spec.opened core size (jobs.start (hearing.isHunting (core .hearing)) asking 0) ⌝ }
+// An act with which reception has this much to say, and no byte of its own.
+fn told(reception: Reception, bad: u8, act: Act) -> Outcome
+    ensures { λ r. ⌜ r ≡ spec.told reception bad act ⌝ }
 {
-    let before = core.hearing;
-    let hunting = is_hunting(before);
+    let said = saying(reception, Reply::Silent, 0);
+    let sums = run_of(bad, Reset::Nothing);
+    decided(said, sums, act)
+}
+
+// A tick, by what it was to hearing. (Of hearing a tick, no event of a byte comes.)
+pub fn decide_tick(job: Job, bad: u8, size: u16, event: Event) -> Outcome
+    ensures { λ r. ⌜ r ≡ spec.outcomeOn base size event job bad ⌝ }
+{
+    match event {
+        Event::Inside => decide_on(job, bad, size, event),
+        Event::Kept { at: _ } => decide_on(job, bad, size, event),
+        Event::Skipped => decide_on(job, bad, size, event),
+        Event::Alone(_) => decide_on(job, bad, size, event),
+        Event::Ended(_) => decide_on(job, bad, size, event),
+        Event::TickHunting => told(Reception::Nothing, bad, on_tick(size, true, job)),
+        Event::TickInside => told(Reception::Nothing, bad, on_tick(size, false, job)),
+        Event::Aborted => told(Reception::Abort, bad, on_abort(size, job)),
+    }
+}
+
+// An accepted send or session: copy 1 goes out if hunting, else it is due.
+pub fn opening(hunting: bool, asking: Asking, bad: u8) -> Outcome
+    ensures { λ r. ⌜ r ≡ spec.told reception.Nothing bad (jobs.start hunting asking 0) ⌝ }
+{
     let act = start(hunting, asking, 0);
-    let said = saying(Reception::Nothing, Reply::Silent, 0);
-    let sums = run_of(core.bad, Reset::Nothing);
-    decided(before, size, said, sums, act)
+    told(Reception::Nothing, bad, act)
 }
 
-// An accepted send or session: the frame is built into the held one.
-pub fn open_step(link: Link, asking: Asking, kind: u8, command: u8, parameters: &[u8]) -> Step
-    requires { ⌜ (kind ≤ 1) × (length (now parameters) ≤ 252) ⌝ }
-    ensures { λ r. ⌜ spec.stepOut r ≡ spec.openOut link asking (frameOf kind command (now (parameters .entry))) ⌝ }
+// Restart: 15 is put out, and an open send or session is abandoned.
+pub fn restarting(job: Job) -> Outcome
+    ensures { λ r. ⌜ r ≡ spec.restarting (jobs.onRestart job) ⌝ }
 {
-    let core = link.core;
-    let body = link.body;
-    let mut frame = link.frame;
-    let size = (parameters.len() + 5) as u16;
-    frame::build(kind, command, parameters, &mut frame);
-    let decision = opening(core, asking, size);
-    Step {
-        body: body,
-        frame: frame,
-        decision: decision,
-    }
-}
-
-// Restart: 15 is put out and the link is fresh.
-pub fn restart_step(link: Link) -> Step
-    ensures { λ r. ⌜ spec.stepOut r ≡ spec.restartOut link ⌝ }
-{
-    let core = link.core;
-    let job = core.job;
     let act = on_restart(job);
     let sending = act.sending;
     let session = act.session;
-    let fresh = fresh_core();
-    Step {
-        body: [0; 254],
-        frame: [0; 257],
-        decision: Decision {
-            core: fresh,
-            reception: Reception::Nothing,
-            sending: sending,
-            session: session,
-            reset: Reset::Nothing,
-            reply: Reply::Nak,
-            copy: false,
-            up: 0,
-        },
-    }
-}
-
-// The link that a step leaves.
-pub fn link_of(step: Step) -> Link
-    ensures { λ r. ⌜ r ≡ spec.stepOut step .link ⌝ }
-{
-    let d = step.decision;
-    let core = d.core;
-    let body = step.body;
-    let frame = step.frame;
-    Link {
-        core: core,
-        body: body,
-        frame: frame,
+    let fresh = Job::Idle;
+    Outcome {
+        job: fresh,
+        bad: 0,
+        reception: Reception::Nothing,
+        sending: sending,
+        session: session,
+        reset: Reset::Nothing,
+        reply: Reply::Nak,
+        copy: false,
+        up: 0,
     }
 }

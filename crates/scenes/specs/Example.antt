@@ -11,7 +11,7 @@ use Rattle.frame.specs.declared.builder.Built.{Built}
 use Rattle.frame.specs.declared.reader.Reading.{Reading}
 use Rattle.units.specs.Units.{convertedOf}
 use Rattle.units.specs.declared.Millis.{Millis}
-use Rattle.link.specs.Rules.{base}
+use Rattle.sending.specs.Rules.{base}
 use Rattle.bodies.specs.Nodes as nodes
 use Rattle.bodies.specs.Timeouts.{ticksFor, setOf}
 use Rattle.bodies.specs.declared.nodes.NodeList.{NodeList}

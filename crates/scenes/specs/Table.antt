@@ -8,11 +8,11 @@ use Rattle.frame.specs.declared.reader.Reading.the-variants.{Refused}
 use Rattle.frame.specs.declared.refusal.Refusal.the-variants as refusal
 use Rattle.link.specs.declared.report.Reception.{Reception}
 use Rattle.link.specs.declared.report.Reception.the-variants as reception
-use Rattle.link.specs.declared.report.Reset.{Reset}
-use Rattle.link.specs.declared.report.Reset.the-variants as reset
-use Rattle.link.specs.declared.report.Sending.{Sending}
-use Rattle.link.specs.declared.report.Sending.the-variants as sending
-use Rattle.link.specs.declared.report.Session.the-variants as session
+use Rattle.sending.specs.declared.report.Reset.{Reset}
+use Rattle.sending.specs.declared.report.Reset.the-variants as reset
+use Rattle.sending.specs.declared.report.Sending.{Sending}
+use Rattle.sending.specs.declared.report.Sending.the-variants as sending
+use Rattle.sending.specs.declared.report.Session.the-variants as session
 use Rattle.bodies.specs.declared.nodes.NodeList.the-variants as nodes
 use Rattle.history.specs.Calls.{Call, byte, send}
 use Rattle.scenes.specs.Scene.{lent, silence, Seen, said}

@@ -23,9 +23,6 @@ least-requires c κs = search needs
 cast-n : tie.Need-cast-n
 cast-n c = search needs
 
-slice-aggregate-lay : tie.Need-slice-aggregate-lay
-slice-aggregate-lay c = search needs
-
 lay-requires : tie.Need-lay-requires
 lay-requires c κs = search needs
 
@@ -33,17 +30,17 @@ add-result : tie.Need-add-result
 add-result c =
     let st = c .before .before .before .before .before .before .before .before .before .before .before .before in
     let a = st .args in
-    let put = c .before .before .before .before .before .before .before .before .before .put-reply .ensures in
-    let n = c .before .before .before .before .before .least .ensures in
-    omega (arith, put .0, reply-short (a .reply), n, min-le-right (a .size) 257)
+    let put = c .before .before .before .before .before .before .before .before .put-reply .ensures in
+    let n = c .before .before .before .before .least .ensures in
+    omega (arith, put .0, reply-short (a .outcome .reply), n, min-le-right (a .size) 257)
 
 cast-result : tie.Need-cast-result
 cast-result c =
     let st = c .before .before .before .before .before .before .before .before .before .before .before .before in
     let a = st .args in
-    let put = c .before .before .before .before .before .before .before .before .before .put-reply .ensures in
-    let n = c .before .before .before .before .before .least .ensures in
-    omega (arith, put .0, reply-short (a .reply), n, min-le-right (a .size) 257)
+    let put = c .before .before .before .before .before .before .before .before .put-reply .ensures in
+    let n = c .before .before .before .before .least .ensures in
+    omega (arith, put .0, reply-short (a .outcome .reply), n, min-le-right (a .size) 257)
 
 same-length : tie.Need-same-length
 same-length c = search needs
@@ -52,27 +49,25 @@ returns : tie.Need-returns
 returns c =
     let st = c .before .before .before .before .before .before .before .before .before .before .before .before in
     let a = st .args in
-    let put = c .before .before .before .before .before .before .before .before .before .put-reply .ensures in
-    let n = c .before .before .before .before .before .least .ensures in
-    let z : length (a .t3) ≡ 257 = st .good .1 .1 .0 .1 .0 .1 in
-    let room : length (replyBytes (a .reply)) + length (a .t3) ≤ length (now (a .line)) = omega (arith, z, reply-short (a .reply), st .pre) in
-    simp (c .before .before .before .before .before .before .if1 .taken)
-    (put-behind (replyBytes (a .reply)) (a .t3) (now (a .line)) (a .size) _ _ (put .0) (put .1) (simp z n) room (c .before .before .lay .ensures))
+    let put = c .before .before .before .before .before .before .before .before .put-reply .ensures in
+    let n = c .before .before .before .before .least .ensures in
+    let f = now (a .frame) in
+    let z : length f ≡ 257 = st .pre .0 in
+    let room : length (replyBytes (a .outcome .reply)) + length f ≤ length (now (a .line)) = omega (arith, z, reply-short (a .outcome .reply), st .pre .1) in
+    simp (c .before .before .before .before .before .if1 .taken)
+    (put-behind (replyBytes (a .outcome .reply)) f (now (a .line)) (a .size) _ _ (put .0) (put .1) (simp z n) room (c .before .before .lay .ensures))
 
 cast-result-2 : tie.Need-cast-result-2
-cast-result-2 c =
-    let st = c .before .before .before .before .before .before in
-    let put = c .before .before .before .put-reply .ensures in
-    omega (arith, put .0, reply-short (st .args .reply))
+cast-result-2 c = omega (arith, c .before .before .before .put-reply .ensures .0, reply-short (c .before .before .before .before .before .before .before .args .outcome .reply))
 
 same-length-2 : tie.Need-same-length-2
 same-length-2 c = search needs
 
 returns-2 : tie.Need-returns-2
 returns-2 c =
-    let st = c .before .before .before .before .before .before in
+    let st = c .before .before .before .before .before .before .before in
     let put = c .before .before .before .put-reply .ensures in
-    let e = sym (append-nil (replyBytes (st .args .reply))) in
+    let e = sym (append-nil (replyBytes (st .args .outcome .reply))) in
     simp (c .if1 .left)
     (record { count = put .0 ∙ ap length e; left = put .1 ∙ ap (λ (bs : List ℕ). over bs (now (st .args .line))) e })
 
@@ -83,7 +78,6 @@ put-line-spec =
     put-reply-requires
     least-requires
     cast-n
-    slice-aggregate-lay
     lay-requires
     add-result
     cast-result

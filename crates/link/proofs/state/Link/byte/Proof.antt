@@ -1,11 +1,12 @@
 -- `link::state::Link::byte` meets its contract.
 -- Assumes nothing.
-use mathlib.Core.Path.{refl}
+use mathlib.Core.Path.{refl, sym, ap, _∙_}
 use denote.Ref.{now}
-use Rattle.link.specs.Rules.{base}
+use Rattle.sending.specs.Rules.{base}
 use Rattle.link.specs.Step.{byteOut}
 use Rattle.link.specs.Calls.{passes}
-use Rattle.link.proofs.Ways.{short-line, short-up, refuse, accept}
+use Rattle.link.proofs.Sizes.{sizes}
+use Rattle.link.proofs.Ways.{short-line, short-up, roomy, refuse, give}
 use borrow.Author.Needs.{needs}
 use Rattle.link.proofs.state.Link.byte.Statement.{statement}
 use Rattle.link.proofs.state.Link.byte.Tie as tie
@@ -30,11 +31,26 @@ returns-2 c =
     let up = now (a .up) in
     refuse passes (byteOut base (a .self) (a .b)) (a .self) line up (short-up line up passes (c .before .before .if1 .left) (c .before .if2 .taken)) (c .refused2 .ensures)
 
-byte-step-requires : tie.Need-byte-step-requires
-byte-step-requires c κs = search needs
+hear-byte-requires : tie.Need-hear-byte-requires
+hear-byte-requires c κs = search needs
 
-emit-requires : tie.Need-emit-requires
-emit-requires c κs = search needs
+decide-on-requires : tie.Need-decide-on-requires
+decide-on-requires c κs = search needs
+
+keep-requires : tie.Need-keep-requires
+keep-requires c κs = search needs
+
+put-line-requires : tie.Need-put-line-requires
+put-line-requires c κs = search needs
+
+put-up-requires : tie.Need-put-up-requires
+put-up-requires c κs = search needs
+
+report-of-requires : tie.Need-report-of-requires
+report-of-requires c κs = search needs
+
+core-of-requires : tie.Need-core-of-requires
+core-of-requires c κs = search needs
 
 same-length : tie.Need-same-length
 same-length c = search needs
@@ -43,11 +59,21 @@ same-length-2 : tie.Need-same-length-2
 same-length-2 c = search needs
 
 returns-3 : tie.Need-returns-3
+unfolding byteOut
 returns-3 c =
-    let a = c .before .before .before .before .before .before .before .before .before .before .before .before .args in
+    let st = c .before .before .before .before .before .before .before .before .before .before .before .before .before .before .before .before .before .before .before .before .before .before .before .before .before in
+    let a = st .args in
     let line = now (a .line) in
     let up = now (a .up) in
-    accept passes (byteOut base (a .self) (a .b)) (a .self) line up (c .before .before .before .before .before .before .before .before .before .if1 .left) (c .before .before .before .before .before .before .before .before .if2 .left) refl (c .before .before .before .before .before .before .before .byte-step .ensures) (c .before .before .before .before .emit .ensures)
+    let z = sizes (a .self) _ (st .good .0) in
+    let h = c .before .before .before .before .before .before .before .before .before .before .before .before .before .before .before .before .before .before .before .hear-byte .ensures in
+    let d = c .before .before .before .before .before .before .before .before .before .before .before .before .before .before .before .before .before .before .decide-on .ensures in
+    let k = c .before .before .before .before .before .before .before .before .before .before .before .before .before .before .before .before .keep .ensures (z .0) in
+    let l = c .before .before .before .before .before .before .before .before .before .before .before .put-line .ensures in
+    let u = c .before .before .before .before .put-up .ensures in
+    give passes (byteOut base (a .self) (a .b)) (a .self) line up (roomy line up passes (c .before .before .before .before .before .before .before .before .before .before .before .before .before .before .before .before .before .before .before .before .before .before .if1 .left) (c .before .before .before .before .before .before .before .before .before .before .before .before .before .before .before .before .before .before .before .before .before .if2 .left))
+    (simp (c .core-of .ensures, c .before .report-of .ensures, l .count, u .count, k, d, h))
+    (l .left ∙ simp (d, h)) (u .left ∙ simp (k, d, h))
 
 pub byte-spec : {M : Type 1} → statement M
 byte-spec =
@@ -57,8 +83,13 @@ byte-spec =
     returns
     refused-requires-2
     returns-2
-    byte-step-requires
-    emit-requires
+    hear-byte-requires
+    decide-on-requires
+    keep-requires
+    put-line-requires
+    put-up-requires
+    report-of-requires
+    core-of-requires
     same-length
     same-length-2
     returns-3)

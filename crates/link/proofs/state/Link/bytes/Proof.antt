@@ -1,38 +1,55 @@
 -- `link::state::Link::bytes` meets its contract.
 -- Assumes nothing.
+use mathlib.Core.Path.{_≡_, sym, ap, _∙_}
 use denote.Ref.{now}
-use Rattle.link.specs.Rules.{base}
-use Rattle.link.specs.Step.{runOut}
+use Rattle.sending.specs.Rules.{base}
+use Rattle.frame.specs.Bytes.{over}
+use Rattle.link.specs.Step.{Taken, reportOf, runOut}
+use Rattle.link.specs.declared.calls.RunAnswer.the-variants as run
+use Rattle.link.specs.declared.calls.Ran.{Ran}
 use Rattle.link.specs.Calls.{passes}
+use Rattle.reception.specs.Run.{Far}
+use Rattle.link.proofs.Hears.{reached, runs}
+use Rattle.link.proofs.Sizes.{sizes}
 use Rattle.link.proofs.Ways.{short-line, short-up, roomy, refuse-run, give-run}
 use borrow.Author.Needs.{needs}
 use Rattle.link.proofs.state.Link.bytes.Statement.{statement}
 use Rattle.link.proofs.state.Link.bytes.Tie as tie
+
+abbrev answer-of : Taken → Ran
+answer-of q = record { link = q .out .link; answer = run.Done (reportOf (q .out)) (q .taken) }
 
 returns : tie.Need-returns
 returns c =
     let a = c .before .before .before .before .args in
     let line = now (a .line) in
     let up = now (a .up) in
-    let t = runOut base (a .self) (now (a .bytes)) in
-    refuse-run t (a .self) line up (short-line line up passes (c .if1 .taken))
+    refuse-run (runOut base (a .self) (now (a .bytes))) (a .self) line up (short-line line up passes (c .if1 .taken))
 
 returns-2 : tie.Need-returns-2
 returns-2 c =
     let a = c .before .before .before .before .before .args in
     let line = now (a .line) in
     let up = now (a .up) in
-    let t = runOut base (a .self) (now (a .bytes)) in
-    refuse-run t (a .self) line up (short-up line up passes (c .before .if1 .left) (c .if2 .taken))
+    refuse-run (runOut base (a .self) (now (a .bytes))) (a .self) line up (short-up line up passes (c .before .if1 .left) (c .if2 .taken))
 
-run-step-requires : tie.Need-run-step-requires
-run-step-requires c κs = search needs
+hear-run-requires : tie.Need-hear-run-requires
+hear-run-requires c κs = search needs
 
-link-of-requires : tie.Need-link-of-requires
-link-of-requires c κs = search needs
+decide-requires : tie.Need-decide-requires
+decide-requires c κs = search needs
 
-written-requires : tie.Need-written-requires
-written-requires c κs = search needs
+put-line-requires : tie.Need-put-line-requires
+put-line-requires c κs = search needs
+
+put-up-requires : tie.Need-put-up-requires
+put-up-requires c κs = search needs
+
+report-of-requires : tie.Need-report-of-requires
+report-of-requires c κs = search needs
+
+core-of-requires : tie.Need-core-of-requires
+core-of-requires c κs = search needs
 
 same-length : tie.Need-same-length
 same-length c = search needs
@@ -42,12 +59,20 @@ same-length-2 c = search needs
 
 returns-3 : tie.Need-returns-3
 returns-3 c =
-    let a = c .before .before .before .before .before .before .before .before .before .before .before .before .before .before .before .args in
+    let st = c .before .before .before .before .before .before .before .before .before .before .before .before .before .before .before .before .before .before .before .before .before .before .before .before .before in
+    let a = st .args in
     let line = now (a .line) in
     let up = now (a .up) in
-    let t = runOut base (a .self) (now (a .bytes)) in
-    give-run t (a .self) line up (c .before .before .before .before .before .before .before .before .before .run-step .result) (roomy line up passes (c .before .before .before .before .before .before .before .before .before .before .before .if1 .left) (c .before .before .before .before .before .before .before .before .before .before .if2 .left)) (c .before .before .before .before .before .before .before .before .before .run-step .ensures)
-    (c .before .before .before .before .before .before .before .link-of .ensures) (c .before .before .before .before .written .ensures)
+    let z = sizes (a .self) _ (st .good .0) in
+    let h = c .before .before .before .before .before .before .before .before .before .before .before .before .before .before .before .before .before .hear-run .ensures (z .0) .all in
+    let d = c .before .before .before .before .before .before .before .before .before .before .before .before .before .before .before .before .decide .ensures in
+    let l = c .before .before .before .before .before .before .before .before .before .before .before .put-line .ensures in
+    let u = c .before .before .before .before .put-up .ensures in
+    let t = sym (runs base (a .self) (now (a .bytes))) in
+    give-run (runOut base (a .self) (now (a .bytes))) (a .self) line up (roomy line up passes (c .before .before .before .before .before .before .before .before .before .before .before .before .before .before .before .before .before .before .before .before .before .if1 .left) (c .before .before .before .before .before .before .before .before .before .before .before .before .before .before .before .before .before .before .before .before .if2 .left))
+    (simp (c .core-of .ensures, c .before .report-of .ensures, l .count, u .count, d)
+    (ap (λ (f : Far). answer-of (reached base (a .self) f)) h ∙ ap answer-of t))
+    (l .left ∙ simp d (ap (λ (f : Far). over (reached base (a .self) f .out .line) line) h ∙ ap (λ (q : Taken). over (q .out .line) line) t)) (u .left ∙ simp d (ap (λ (f : Far). over (reached base (a .self) f .out .up) up) h ∙ ap (λ (q : Taken). over (q .out .up) up) t))
 
 pub bytes-spec : {M : Type 1} → statement M
 bytes-spec =
@@ -55,9 +80,12 @@ bytes-spec =
     (tie.spec
     returns
     returns-2
-    run-step-requires
-    link-of-requires
-    written-requires
+    hear-run-requires
+    decide-requires
+    put-line-requires
+    put-up-requires
+    report-of-requires
+    core-of-requires
     same-length
     same-length-2
     returns-3)

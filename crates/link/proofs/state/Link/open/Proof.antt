@@ -1,17 +1,13 @@
 -- `link::state::Link::open` meets its contract.
 -- Assumes nothing.
-use Rattle.link.specs.State.{noBody}
-use Rattle.link.specs.State.{noFrame}
-use borrow.Author.Needs.{needs}
+use mathlib.Core.Path.{refl}
+use Rattle.link.specs.State.{noBody, noFrame}
 use Rattle.link.proofs.state.Link.open.Statement.{statement}
 use Rattle.link.proofs.state.Link.open.Tie as tie
 
-fresh-core-requires : tie.Need-fresh-core-requires
-fresh-core-requires c κs = search needs
-
 returns : tie.Need-returns
 unfolding noBody noFrame
-returns c = simp (c .fresh-core .ensures)
+returns c = refl
 
 pub open-spec : {M : Type 1} → statement M
-open-spec = tie.close (tie.spec fresh-core-requires returns)
+open-spec = tie.close (tie.spec returns)

@@ -1,7 +1,8 @@
 -- `link::state::Link::restart` meets its contract.
 -- Assumes nothing.
-use mathlib.Core.Path.{refl}
+use mathlib.Core.Path.{refl, sym, ap, _∙_}
 use denote.Ref.{now}
+use Rattle.sending.specs.Rules.{base}
 use Rattle.link.specs.Step.{restartOut}
 use Rattle.link.specs.Calls.{passes}
 use Rattle.link.proofs.Ways.{short-line, short-up, refuse, accept}
@@ -29,8 +30,11 @@ returns-2 c =
     let up = now (a .up) in
     refuse passes (restartOut (a .self)) (a .self) line up (short-up line up passes (c .before .before .if1 .left) (c .before .if2 .taken)) (c .refused2 .ensures)
 
-restart-step-requires : tie.Need-restart-step-requires
-restart-step-requires c κs = search needs
+open-requires : tie.Need-open-requires
+open-requires c κs = search needs
+
+restarting-requires : tie.Need-restarting-requires
+restarting-requires c κs = search needs
 
 emit-requires : tie.Need-emit-requires
 emit-requires c κs = search needs
@@ -38,15 +42,13 @@ emit-requires c κs = search needs
 same-length : tie.Need-same-length
 same-length c = search needs
 
-same-length-2 : tie.Need-same-length-2
-same-length-2 c = search needs
-
 returns-3 : tie.Need-returns-3
+unfolding restartOut
 returns-3 c =
-    let a = c .before .before .before .before .before .before .before .before .before .before .before .before .args in
+    let a = c .before .before .before .before .before .before .before .before .before .before .before .args in
     let line = now (a .line) in
     let up = now (a .up) in
-    accept passes (restartOut (a .self)) (a .self) line up (c .before .before .before .before .before .before .before .before .before .if1 .left) (c .before .before .before .before .before .before .before .before .if2 .left) refl (c .before .before .before .before .before .before .before .restart-step .ensures) (c .before .before .before .before .emit .ensures)
+    accept passes (restartOut (a .self)) (a .self) line up (c .before .before .before .before .before .before .before .before .if1 .left) (c .before .before .before .before .before .before .before .if2 .left) refl (simp (c .before .before .before .before .restarting .ensures, c .before .before .before .before .before .«open» .ensures)) (c .before .before .emit .ensures)
 
 pub restart-spec : {M : Type 1} → statement M
 restart-spec =
@@ -56,8 +58,8 @@ restart-spec =
     returns
     refused-requires-2
     returns-2
-    restart-step-requires
+    open-requires
+    restarting-requires
     emit-requires
     same-length
-    same-length-2
     returns-3)

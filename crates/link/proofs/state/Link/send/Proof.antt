@@ -1,11 +1,11 @@
 -- `link::state::Link::send` meets its contract.
 -- Assumes nothing.
-use mathlib.Core.Path.{sym, _∙_}
+use mathlib.Core.Path.{refl, sym, _∙_}
 use denote.Ref.{now}
 use borrow.Author.Tests.{lt-ltb, le-ltb}
 use lib.ListN.{length}
 use Rattle.frame.specs.Frame.{frameOf}
-use Rattle.link.specs.declared.job.Asking.the-variants.{Plain}
+use Rattle.sending.specs.declared.job.Asking.the-variants.{Plain}
 use Rattle.link.specs.Step.{openOut}
 use Rattle.link.specs.Calls.{sendChecks}
 use Rattle.link.proofs.Ways.{short-line, short-up, roomy, refuse, accept}
@@ -71,25 +71,19 @@ returns-5 c =
     let own = sendChecks (a .self) (a .kind) (length (now (a .parameters))) in
     refuse own (openOut (a .self) Plain (frameOf (a .kind) (a .command) (now (a .parameters)))) (a .self) line up (roomy line up own (c .before .before .before .before .before .before .if1 .left) (c .before .before .before .before .before .if2 .left) ∙ simp (sym (c .before .before .before .before .is-open .ensures) ∙ c .before .before .before .if3 .left, le-ltb _ _ (c .before .before .if4 .left), lt-ltb _ _ (c .before .if5 .taken))) (c .refused5 .ensures)
 
-open-step-requires : tie.Need-open-step-requires
-open-step-requires c κs = search needs
-
-emit-requires : tie.Need-emit-requires
-emit-requires c κs = search needs
+opened-requires : tie.Need-opened-requires
+opened-requires c κs = search needs
 
 same-length : tie.Need-same-length
 same-length c = search needs
 
-same-length-2 : tie.Need-same-length-2
-same-length-2 c = search needs
-
 returns-6 : tie.Need-returns-6
 returns-6 c =
-    let a = c .before .before .before .before .before .before .before .before .before .before .before .before .before .before .before .before .before .before .args in
+    let a = c .before .before .before .before .before .before .before .before .before .before .before .before .before .before .args in
     let line = now (a .line) in
     let up = now (a .up) in
     let own = sendChecks (a .self) (a .kind) (length (now (a .parameters))) in
-    accept own (openOut (a .self) Plain (frameOf (a .kind) (a .command) (now (a .parameters)))) (a .self) line up (c .before .before .before .before .before .before .before .before .before .before .before .before .before .if1 .left) (c .before .before .before .before .before .before .before .before .before .before .before .before .if2 .left) (simp (sym (c .before .before .before .before .before .before .before .before .before .before .before .is-open .ensures) ∙ c .before .before .before .before .before .before .before .before .before .before .if3 .left, le-ltb _ _ (c .before .before .before .before .before .before .before .before .before .if4 .left), le-ltb _ _ (c .before .before .before .before .before .before .before .before .if5 .left))) (c .before .before .before .before .before .before .before .open-step .ensures) (c .before .before .before .before .emit .ensures)
+    accept own (openOut (a .self) Plain (frameOf (a .kind) (a .command) (now (a .parameters)))) (a .self) line up (c .before .before .before .before .before .before .before .before .before .if1 .left) (c .before .before .before .before .before .before .before .before .if2 .left) (simp (sym (c .before .before .before .before .before .before .before .is-open .ensures) ∙ c .before .before .before .before .before .before .if3 .left, le-ltb _ _ (c .before .before .before .before .before .if4 .left), le-ltb _ _ (c .before .before .before .before .if5 .left))) refl (c .before .before .opened .ensures)
 
 pub send-spec : {M : Type 1} → statement M
 send-spec =
@@ -106,8 +100,6 @@ send-spec =
     returns-4
     refused-requires-5
     returns-5
-    open-step-requires
-    emit-requires
+    opened-requires
     same-length
-    same-length-2
     returns-6)

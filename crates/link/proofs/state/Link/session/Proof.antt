@@ -1,11 +1,11 @@
 -- `link::state::Link::session` meets its contract.
 -- Assumes nothing.
-use mathlib.Core.Path.{sym, _∙_}
+use mathlib.Core.Path.{refl, sym, _∙_}
 use denote.Ref.{now}
 use borrow.Author.Tests.{lt-ltb, le-ltb}
 use lib.ListN.{length}
 use Rattle.frame.specs.Frame.{frameOf}
-use Rattle.link.specs.declared.job.Asking.the-variants.{Asks}
+use Rattle.sending.specs.declared.job.Asking.the-variants.{Asks}
 use Rattle.link.specs.Step.{openOut}
 use Rattle.link.specs.Calls.{sessionChecks}
 use Rattle.link.proofs.Ways.{short-line, short-up, roomy, refuse, accept}
@@ -60,25 +60,19 @@ returns-4 c =
     let own = sessionChecks (a .self) (length (now (a .parameters))) in
     refuse own (openOut (a .self) (Asks (a .command)) (frameOf 0 (a .command) (now (a .parameters)))) (a .self) line up (roomy line up own (c .before .before .before .before .before .if1 .left) (c .before .before .before .before .if2 .left) ∙ simp (sym (c .before .before .before .is-open .ensures) ∙ c .before .before .if3 .left, lt-ltb _ _ (c .before .if4 .taken))) (c .refused4 .ensures)
 
-open-step-requires : tie.Need-open-step-requires
-open-step-requires c κs = search needs
-
-emit-requires : tie.Need-emit-requires
-emit-requires c κs = search needs
+opened-requires : tie.Need-opened-requires
+opened-requires c κs = search needs
 
 same-length : tie.Need-same-length
 same-length c = search needs
 
-same-length-2 : tie.Need-same-length-2
-same-length-2 c = search needs
-
 returns-5 : tie.Need-returns-5
 returns-5 c =
-    let a = c .before .before .before .before .before .before .before .before .before .before .before .before .before .before .before .before .before .args in
+    let a = c .before .before .before .before .before .before .before .before .before .before .before .before .before .args in
     let line = now (a .line) in
     let up = now (a .up) in
     let own = sessionChecks (a .self) (length (now (a .parameters))) in
-    accept own (openOut (a .self) (Asks (a .command)) (frameOf 0 (a .command) (now (a .parameters)))) (a .self) line up (c .before .before .before .before .before .before .before .before .before .before .before .before .if1 .left) (c .before .before .before .before .before .before .before .before .before .before .before .if2 .left) (simp (sym (c .before .before .before .before .before .before .before .before .before .before .is-open .ensures) ∙ c .before .before .before .before .before .before .before .before .before .if3 .left, le-ltb _ _ (c .before .before .before .before .before .before .before .before .if4 .left))) (c .before .before .before .before .before .before .before .open-step .ensures) (c .before .before .before .before .emit .ensures)
+    accept own (openOut (a .self) (Asks (a .command)) (frameOf 0 (a .command) (now (a .parameters)))) (a .self) line up (c .before .before .before .before .before .before .before .before .if1 .left) (c .before .before .before .before .before .before .before .if2 .left) (simp (sym (c .before .before .before .before .before .before .is-open .ensures) ∙ c .before .before .before .before .before .if3 .left, le-ltb _ _ (c .before .before .before .before .if4 .left))) refl (c .before .before .opened .ensures)
 
 pub session-spec : {M : Type 1} → statement M
 session-spec =
@@ -93,8 +87,6 @@ session-spec =
     returns-3
     refused-requires-4
     returns-4
-    open-step-requires
-    emit-requires
+    opened-requires
     same-length
-    same-length-2
     returns-5)
