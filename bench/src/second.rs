@@ -43,9 +43,8 @@ pub fn runs(input: &[u8], most: usize, line: &mut [u8], up: &mut [u8]) -> u64 {
     sum
 }
 
-#[inline(never)]
-pub fn bytes(input: &[u8], line: &mut [u8], up: &mut [u8]) -> u64 {
-    let mut link = Link::open();
+/// Every byte in a call of its own.
+fn fed(link: &mut Link, input: &[u8], line: &mut [u8], up: &mut [u8]) -> u64 {
     let mut sum = 0;
     for &byte in input {
         let number = match link.byte(byte, line, up) {
@@ -55,6 +54,11 @@ pub fn bytes(input: &[u8], line: &mut [u8], up: &mut [u8]) -> u64 {
         sum = mix(sum, number);
     }
     sum
+}
+
+#[inline(never)]
+pub fn bytes(input: &[u8], line: &mut [u8], up: &mut [u8]) -> u64 {
+    fed(&mut Link::open(), input, line, up)
 }
 
 #[inline(never)]
@@ -70,7 +74,7 @@ pub fn ticks(
     if asks {
         let _ = link.session(7, parameters, line, up);
     }
-    let _ = link.bytes(heard, line, up);
+    let _ = fed(&mut link, heard, line, up);
     let mut sum = 0;
     for _ in 0..n {
         let number = match link.tick(line, up) {

@@ -244,14 +244,22 @@ fn wide(b: u8) -> usize
     b as usize
 }
 
-// One byte while hunting, or one whole frame.
+// One byte while hunting, or one whole frame. 01 is not tested for first: LLVM would make one jump table of that test and those for
+// the three single bytes, and counting long frames would take a fifth longer.
 fn step(counts: Counts, bytes: &[u8], i: usize) -> Stretch
     requires { ⌜ i < length (now bytes) ⌝ }
     ensures { λ r. ⌜ Ahead (now (bytes .entry)) (hunting counts) i (hunting (r .counts)) (r .at) ⌝ }
 {
     let b = bytes[i];
-    if b == 1 {
-        return stride(counts, bytes, i);
+    if b < 2 {
+        if b == 1 {
+            return stride(counts, bytes, i);
+        }
+        let next = count_apart(counts, b);
+        return Stretch {
+            counts: next,
+            at: i + 1,
+        };
     }
     let next = count_apart(counts, b);
     Stretch {

@@ -13,20 +13,15 @@ use native.Mathlib.Omega.{arith}
 use lib.ListN.{length, drop, getD, drop-of-length-le}
 use lib.Seq.{drop-cons}
 use Rattle.sending.specs.Rules.{base}
-use Rattle.link.specs.Step.{Out, byteOut, tickOut, openOut, runOut}
-use Rattle.link.specs.Calls.{Checked, Call, Run, checks, passes, sessionChecks}
+use Rattle.link.specs.Step.{Out, byteOut, tickOut, openOut}
+use Rattle.link.specs.Calls.{Checked, Call, checks, passes, sessionChecks}
 use Rattle.link.specs.declared.state.Link.{Link}
 use Rattle.link.specs.State.{freshLink}
 use Rattle.link.specs.declared.calls.Answered.{Answered}
-use Rattle.link.specs.declared.calls.Ran.{Ran}
 use Rattle.sending.specs.declared.job.Asking.the-variants.{Asks}
 use Rattle.frame.specs.Frame.{frameOf}
 use Rattle.exports.specs.Numbers.{mixed, answerNumber}
-use Rattle.exports.specs.Feeding.{Fed, afterCall, byteFed, tickFed, bytesFed, ticksFed, opened, asked, heardFed, Ended, Ready}
-
--- a link, two buffers and a number, put together
-abbrev pub at : Link → List ℕ → List ℕ → ℕ → Fed
-at l line up s = record { link = l; line = line; up = up; sum = s }
+use Rattle.exports.specs.Feeding.{Fed, at, afterCall, byteFed, tickFed, bytesFed, ticksFed, opened, asked, unsummed, heardFed, Ended}
 
 pub same-checks : (own : Checked) (line up line₀ up₀ : List ℕ) → length line ≡ length line₀ → length up ≡ length up₀
     → checks line up own ≡ checks line₀ up₀ own
@@ -101,40 +96,20 @@ module _ (ps line up : List ℕ) (l : Link) (fresh : l ≡ freshLink) where
   pub asked-not : (asks : Bool) → asks ≡ false → asked asks ps (opened line up) ≡ at l line up 0
   asked-not asks e = simp (e, fresh)
 
-pub heard-on : (bs : List ℕ) (f : Fed) (l : Link) (line up line′ up′ : List ℕ) (r : Ran) → f ≡ at l line up 0
-    → Run (runOut base l bs) l line up r line′ up′ → Ready (heardFed bs f) (r .link) line′ up′
-heard-on bs f l line up line′ up′ r e x =
-    record {
-      link = ap (λ (q : Ran). q .link) (x .answer) ∙ ap (λ (g : Fed). heardFed bs g .link) (sym e);
-      line-left = x .line-left ∙ ap (λ (g : Fed). heardFed bs g .line) (sym e);
-      up-left = x .up-left ∙ ap (λ (g : Fed). heardFed bs g .up) (sym e);
-    }
-
-asked-sum : (asks : Bool) (ps line up : List ℕ) → asked asks ps (opened line up) .sum ≡ 0
-asked-sum true ps line up = refl
-asked-sum false ps line up = refl
+pub heard-on : (bs : List ℕ) (f : Fed) (l l′ : Link) (line up line′ up′ : List ℕ) (s : ℕ) → f ≡ at l line up 0
+    → bytesFed (checks line up passes) (at l line up 0) bs ≡ at l′ line′ up′ s → heardFed bs f ≡ at l′ line′ up′ 0
+heard-on bs f l l′ line up line′ up′ s e x = ap (heardFed bs) e ∙ ap unsummed x
 
 -- ticks on a link that was made ready
-module _ (asks : Bool) (ps bs line₀ up₀ : List ℕ) where
-  abbrev ready : Fed
-  ready = heardFed bs (asked asks ps (opened line₀ up₀))
-
-  made-ready : (l : Link) (line up : List ℕ) → Ready ready l line up → at l line up 0 ≡ ready
-  made-ready l line up x =
-      ap (λ (y : Link). at y line up 0) (x .link)
-      ∙ ap (λ (y : List ℕ). at (ready .link) y up 0) (x .line-left)
-      ∙ ap (λ (y : List ℕ). at (ready .link) (ready .line) y 0) (x .up-left)
-      ∙ ap (at (ready .link) (ready .line) (ready .up)) (sym (asked-sum asks ps line₀ up₀))
-
-  pub ready-ticks : (l : Link) (line up line′ up′ : List ℕ) (n r : ℕ) → length line ≡ length line₀ → length up ≡ length up₀
-      → Ready ready l line up → Ended (ticksFed (checks line up passes) (at l line up 0) n) r line′ up′
-      → Ended (ticksFed (checks line₀ up₀ passes) ready n) r line′ up′
-  ready-ticks l line up line′ up′ n r p q x y =
-      let e : ticksFed (checks line up passes) (at l line up 0) n ≡ ticksFed (checks line₀ up₀ passes) ready n =
-      ap (λ (z : Checked). ticksFed z (at l line up 0) n) (same-checks passes line up line₀ up₀ p q)
-      ∙ ap (λ (z : Fed). ticksFed (checks line₀ up₀ passes) z n) (made-ready l line up x) in
-      record {
-        answer = y .answer ∙ ap (λ (g : Fed). g .sum) e;
-        line-left = y .line-left ∙ ap (λ (g : Fed). g .line) e;
-        up-left = y .up-left ∙ ap (λ (g : Fed). g .up) e;
-      }
+pub ready-ticks : (f : Fed) (l : Link) (line up line₀ up₀ line′ up′ : List ℕ) (n r : ℕ)
+    → length line ≡ length line₀ → length up ≡ length up₀ → f ≡ at l line up 0
+    → Ended (ticksFed (checks line up passes) (at l line up 0) n) r line′ up′ → Ended (ticksFed (checks line₀ up₀ passes) f n) r line′ up′
+ready-ticks f l line up line₀ up₀ line′ up′ n r p q x y =
+    let e : ticksFed (checks line up passes) (at l line up 0) n ≡ ticksFed (checks line₀ up₀ passes) f n =
+    ap (λ (z : Checked). ticksFed z (at l line up 0) n) (same-checks passes line up line₀ up₀ p q)
+    ∙ ap (λ (z : Fed). ticksFed (checks line₀ up₀ passes) z n) (sym x) in
+    record {
+      answer = y .answer ∙ ap (λ (g : Fed). g .sum) e;
+      line-left = y .line-left ∙ ap (λ (g : Fed). g .line) e;
+      up-left = y .up-left ∙ ap (λ (g : Fed). g .up) e;
+    }

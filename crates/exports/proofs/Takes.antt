@@ -19,8 +19,8 @@ use Rattle.link.specs.Calls.{Checked, passes, refuses, checks, ran, Run}
 use Rattle.link.specs.declared.state.Link.{Link}
 use Rattle.link.specs.declared.calls.Ran.{Ran}
 use Rattle.exports.specs.Numbers.{mixed, runNumber, takenBy}
-use Rattle.exports.specs.Feeding.{Fed, part, ranBy, runFed, runsFed}
-use Rattle.exports.proofs.Feeds.{at, same-checks}
+use Rattle.exports.specs.Feeding.{Fed, at, part, ranBy, runFed, runsFed}
+use Rattle.exports.proofs.Feeds.{same-checks}
 
 abbrev pub fed : Link → List ℕ → List ℕ → ℕ → Fed
 fed = at

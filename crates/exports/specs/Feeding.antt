@@ -25,13 +25,15 @@ pub record Fed : Type 0 where
   pub up : List ℕ
   pub sum : ℕ
 
+abbrev pub at : Link → List ℕ → List ℕ → ℕ → Fed
+at l line up s = record { link = l; line = line; up = up; sum = s }
+
 abbrev pub opened : List ℕ → List ℕ → Fed
-opened line up = record { link = freshLink; line = line; up = up; sum = 0 }
+opened line up = at freshLink line up 0
 
 -- after a call that answers r and gives o under these checks, with n mixed into the number
 abbrev pub after : Checked → Out → Link → ℕ → Fed → Fed
-after k o l n f =
-    record { link = l; line = left k (o .line) (f .line); up = left k (o .up) (f .up); sum = n }
+after k o l n f = at l (left k (o .line) (f .line)) (left k (o .up) (f .up)) n
 
 abbrev pub afterCall : Checked → Out → Fed → Fed
 afterCall k o f =
@@ -75,7 +77,7 @@ runsFed (suc n) k most f bs =
     (pick (eqb (takenBy (ranBy k f (part most bs) .answer)) 0) (runFed k f (part most bs))
     (runsFed n k most (runFed k f (part most bs)) (drop (takenBy (ranBy k f (part most bs) .answer)) bs)))
 
--- a session asked for, or not, with command 7; then a run of bytes; nothing is mixed in
+-- a session asked for, or not, with command 7; nothing is mixed in
 abbrev pub asked : Bool → List ℕ → Fed → Fed
 asked asks ps f =
     pick asks
@@ -84,18 +86,16 @@ asked asks ps f =
     (f .sum) f)
     f
 
+-- the number thrown away
+abbrev pub unsummed : Fed → Fed
+unsummed f = at (f .link) (f .line) (f .up) 0
+
+-- these bytes, each in a call of its own; nothing is mixed in
 abbrev pub heardFed : List ℕ → Fed → Fed
-heardFed bs f =
-    after (checks (f .line) (f .up) passes) (runOut base (f .link) bs .out) (ranBy (checks (f .line) (f .up) passes) f bs .link) (f .sum) f
+heardFed bs f = unsummed (bytesFed (checks (f .line) (f .up) passes) f bs)
 
 -- what an exported call answers, and leaves in the lent buffers
 pub record Ended (f : Fed) (r : ℕ) (line′ up′ : List ℕ) : Type 0 where
   pub answer : r ≡ f .sum
-  pub line-left : line′ ≡ f .line
-  pub up-left : up′ ≡ f .up
-
--- a link handed on, and what is left in the lent buffers
-pub record Ready (f : Fed) (r : Link) (line′ up′ : List ℕ) : Type 0 where
-  pub link : r ≡ f .link
   pub line-left : line′ ≡ f .line
   pub up-left : up′ ≡ f .up

@@ -7,7 +7,7 @@ ghost use mathlib.Core.Path.{_≡_};
 ghost use Prim.Native.Nat.{min};
 ghost use lib.ListN.{length};
 ghost use Rattle.link.specs.Calls.{checks, passes};
-ghost use Rattle.exports.specs.Feeding.{Ended, Ready, opened, asked, heardFed, bytesFed, ticksFed, runsFed};
+ghost use Rattle.exports.specs.Feeding.{Ended, at, opened, asked, heardFed, bytesFed, ticksFed, runsFed};
 
 fn least(a: usize, b: usize) -> usize
     ensures { λ r. ⌜ r ≡ min a b ⌝ }
@@ -43,12 +43,17 @@ pub extern "C" fn sarnaqel_runs(input: &[u8], most: usize, line: &mut [u8], up: 
     sum
 }
 
-// Every byte in a call of its own.
-#[no_mangle]
-pub extern "C" fn sarnaqel_bytes(input: &[u8], line: &mut [u8], up: &mut [u8]) -> u64
-    ensures { λ r. ⌜ Ended (bytesFed (checks (now (line .entry)) (now (up .entry)) passes) (opened (now (line .entry)) (now (up .entry))) (now (input .entry))) r (now (line .exit)) (now (up .exit)) ⌝ }
+// What a link came to, and the number so far.
+struct Reached {
+    link: Link,
+    sum: u64,
+}
+
+// Every byte in a call of its own. Every call of a link has one place in this module, since LLVM inlines what is called once.
+fn fed(start: Link, input: &[u8], line: &mut [u8], up: &mut [u8]) -> Reached
+    ensures { λ r. ⌜ bytesFed (checks (now (line .entry)) (now (up .entry)) passes) (at start (now (line .entry)) (now (up .entry)) 0) (now (input .entry)) ≡ at (r .link) (now (line .exit)) (now (up .exit)) (r .sum) ⌝ }
 {
-    let mut link = Link::open();
+    let mut link = start;
     let mut sum = 0;
     let mut i = 0;
     while i < input.len() {
@@ -58,27 +63,47 @@ pub extern "C" fn sarnaqel_bytes(input: &[u8], line: &mut [u8], up: &mut [u8]) -
         sum = mix(sum, answer_number(answer));
         i += 1;
     }
-    sum
+    Reached {
+        link: link,
+        sum: sum,
+    }
 }
 
-// A fresh link on which a session is asked for, or not, and then a run of bytes comes.
-fn prepared(asks: bool, parameters: &[u8], heard: &[u8], line: &mut [u8], up: &mut [u8]) -> Link
-    ensures { λ r. ⌜ Ready (heardFed (now (heard .entry)) (asked asks (now (parameters .entry)) (opened (now (line .entry)) (now (up .entry))))) r (now (line .exit)) (now (up .exit)) ⌝ }
+// A fresh link that is fed so.
+#[no_mangle]
+pub extern "C" fn sarnaqel_bytes(input: &[u8], line: &mut [u8], up: &mut [u8]) -> u64
+    ensures { λ r. ⌜ Ended (bytesFed (checks (now (line .entry)) (now (up .entry)) passes) (opened (now (line .entry)) (now (up .entry))) (now (input .entry))) r (now (line .exit)) (now (up .exit)) ⌝ }
+{
+    let fresh = Link::open();
+    let reached = fed(fresh, input, line, up);
+    reached.sum
+}
+
+// A fresh link on which a session is asked for, or not.
+fn begun(asks: bool, parameters: &[u8], line: &mut [u8], up: &mut [u8]) -> Link
+    ensures { λ r. ⌜ asked asks (now (parameters .entry)) (opened (now (line .entry)) (now (up .entry))) ≡ at r (now (line .exit)) (now (up .exit)) 0 ⌝ }
 {
     let fresh = Link::open();
     if asks {
         let answered = fresh.session(7, parameters, line, up);
         let link = answered.link;
-        let ran = link.bytes(heard, line, up);
-        return ran.link;
+        return link;
     }
-    let ran = fresh.bytes(heard, line, up);
-    ran.link
+    fresh
+}
+
+// The same, and then it hears these bytes.
+fn prepared(asks: bool, parameters: &[u8], heard: &[u8], line: &mut [u8], up: &mut [u8]) -> Link
+    ensures { λ r. ⌜ heardFed (now (heard .entry)) (asked asks (now (parameters .entry)) (opened (now (line .entry)) (now (up .entry)))) ≡ at r (now (line .exit)) (now (up .exit)) 0 ⌝ }
+{
+    let link = begun(asks, parameters, line, up);
+    let reached = fed(link, heard, line, up);
+    reached.link
 }
 
 // So many ticks.
 fn ticked(start: Link, n: u64, line: &mut [u8], up: &mut [u8]) -> u64
-    ensures { λ r. ⌜ Ended (ticksFed (checks (now (line .entry)) (now (up .entry)) passes) (record { link = start; line = now (line .entry); up = now (up .entry); sum = 0 }) n) r (now (line .exit)) (now (up .exit)) ⌝ }
+    ensures { λ r. ⌜ Ended (ticksFed (checks (now (line .entry)) (now (up .entry)) passes) (at start (now (line .entry)) (now (up .entry)) 0) n) r (now (line .exit)) (now (up .exit)) ⌝ }
 {
     let mut link = start;
     let mut sum = 0;

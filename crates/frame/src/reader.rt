@@ -2,9 +2,12 @@
 use crate::bytes::fold;
 use crate::refusal::Refusal;
 ghost use mathlib.Core.Path.{_≡_};
-ghost use Prim.Native.Nat.{_+_, _≤_};
-ghost use lib.ListN.{length};
-ghost use Rattle.frame.specs.Reader.{readingOf, measuredOf};
+ghost use Prim.Native.Nat.{_-_, _≤_};
+ghost use lib.Dec.{ltb, eqb};
+ghost use Rattle.frame.specs.Pick.{pick};
+ghost use Rattle.frame.specs.Reader.{readingOf};
+ghost use Rattle.frame.specs.declared.refusal.Refusal.the-variants.{Sum, Kind};
+ghost use Rattle.frame.specs.declared.reader.Reading.the-variants.{Refused, Parts};
 
 pub enum Reading {
     Refused(Refusal),
@@ -12,15 +15,11 @@ pub enum Reading {
     Parts { kind: u8, command: u8, count: u8 },
 }
 
-// A frame that is as long as its Length says: what is left to be looked at.
-fn measured(bytes: &[u8], len: u8) -> Reading
-    requires { ⌜ (3 ≤ len) × (length (now bytes) ≡ len + 2) ⌝ }
-    ensures { λ r. ⌜ r ≡ measuredOf (now (bytes .entry)) len ⌝ }
+// What is left to be looked at in a frame that is as long as its Length says. It is given numbers alone, so that it costs `read` no call.
+fn measured(kind: u8, command: u8, len: u8, sum: u8, last: u8) -> Reading
+    requires { ⌜ 3 ≤ len ⌝ }
+    ensures { λ r. ⌜ r ≡ pick (eqb sum last) (pick (ltb 1 kind) (Refused Kind) (Parts kind command (len - 3))) (Refused Sum) ⌝ }
 {
-    let end = len as usize + 1;
-    let kind = bytes[2];
-    let last = bytes[end];
-    let sum = fold(255, &bytes[1..end]);
     if sum != last {
         return Reading::Refused(Refusal::Sum);
     }
@@ -29,7 +28,7 @@ fn measured(bytes: &[u8], len: u8) -> Reading
     }
     Reading::Parts {
         kind: kind,
-        command: bytes[3],
+        command: command,
         count: len - 3,
     }
 }
@@ -60,5 +59,7 @@ pub fn read(bytes: &[u8]) -> Reading
     if whole < n {
         return Reading::Refused(Refusal::Tail);
     }
-    measured(bytes, length)
+    let end = length as usize + 1;
+    let sum = fold(255, &bytes[1..end]);
+    measured(bytes[2], bytes[3], length, sum, bytes[end])
 }

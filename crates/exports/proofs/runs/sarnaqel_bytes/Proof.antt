@@ -1,93 +1,34 @@
--- `exports::runs::sarnaqel_bytes` meets its contract: the invariant is that the bytes left, from here, give what all of them give.
+-- `exports::runs::sarnaqel_bytes` meets its contract: the bytes are fed to a fresh link.
 -- Assumes nothing.
-use mathlib.Core.Path.{_≡_, refl, sym, ap, _∙_}
-use Prim.Native.Nat.{_≤_, _+_, _-_}
-use native.Mathlib.Omega.{arith}
-use borrow.Author.Needs.{needs}
-use lib.ListN.{length, drop}
+use mathlib.Core.Path.{sym, ap, _∙_}
 use denote.Ref.{now}
 use Rattle.link.specs.Calls.{checks, passes}
 use Rattle.link.specs.declared.state.Link.{Link}
-use Rattle.exports.specs.Feeding.{bytesFed}
-use Rattle.exports.proofs.Feeds.{at, bytes-on, bytes-end, ended}
+use Rattle.exports.specs.Feeding.{at, bytesFed}
+use Rattle.exports.proofs.Feeds.{ended}
+use borrow.Author.Needs.{needs}
 use Rattle.exports.proofs.runs.sarnaqel_bytes.Statement.{statement}
 use Rattle.exports.proofs.runs.sarnaqel_bytes.Tie as tie
 
-abbrev Inv-loop : tie.InvT-loop
-Inv-loop input line₀ up₀ link₀ sum₀ i₀ line up link sum i =
-    (i ≤ length input)
-    × (length line ≡ length line₀)
-    × (length up ≡ length up₀)
-    × (bytesFed (checks line₀ up₀ passes) (at link₀ line₀ up₀ sum₀) input ≡ bytesFed (checks line₀ up₀ passes) (at link line up sum) (drop i input))
-
-abbrev μ-loop : tie.MeasureT-loop
-μ-loop input line₀ up₀ link₀ sum₀ i₀ line up link sum i = length input - i
-
-open-requires : tie.Need-open-requires Inv-loop μ-loop
+open-requires : tie.Need-open-requires
 open-requires c κs = search needs
 
-loop-holds : tie.Need-loop-holds Inv-loop μ-loop
-loop-holds c = (omega arith, refl, refl, refl)
+fed-requires : tie.Need-fed-requires
+fed-requires c κs = search needs
 
-shared-slice-read-byte : tie.Need-shared-slice-read-byte Inv-loop μ-loop
-shared-slice-read-byte c = omega arith
+same-length : tie.Need-same-length
+same-length c = search needs
 
-byte-requires : tie.Need-byte-requires Inv-loop μ-loop
-byte-requires c κs = search needs
+same-length-2 : tie.Need-same-length-2
+same-length-2 c = search needs
 
-answer-number-requires : tie.Need-answer-number-requires Inv-loop μ-loop
-answer-number-requires c κs = search needs
-
-mix-requires : tie.Need-mix-requires Inv-loop μ-loop
-mix-requires c κs = search needs
-
-add-i : tie.Need-add-i Inv-loop μ-loop
-add-i c = omega arith
-
-loop-less : tie.Need-loop-less Inv-loop μ-loop
-loop-less c = omega arith
-
-loop-again : tie.Need-loop-again Inv-loop μ-loop
-loop-again c =
-    let l = c .before .before .before .before .before .before .before .before .before .before .before .before .loop in
-    let a = c .before .before .before .before .before .before .before .before .before .before .before .before .before .before .before .before .before .args in (
-      omega arith,
-      omega arith,
-      omega arith,
-      l .inv .3
-          ∙ bytes-on (now (a .line)) (now (a .up)) (l .link) (l .line) (l .up) (l .sum) (l .i) (now (a .input)) _ _ _ _ _ (c .before .before .before .before .before .before .before .before .before .before .before .loop-test .taken) (l .inv .1) (l .inv .2)
-          (c .before .before .before .before .before .before .before .byte .ensures) (c .mix .ensures) (c .before .answer-number .ensures),
-    )
-
-same-length : tie.Need-same-length Inv-loop μ-loop
-same-length c = omega arith
-
-same-length-2 : tie.Need-same-length-2 Inv-loop μ-loop
-same-length-2 c = omega arith
-
-returns : tie.Need-returns Inv-loop μ-loop
+returns : tie.Need-returns
 returns c =
-    let l = c .before .loop in
-    let a = c .before .before .before .before .before .before .args in
-    let start = ap (λ (x : Link). bytesFed (checks (now (a .line)) (now (a .up)) passes) (at x (now (a .line)) (now (a .up)) 0) (now (a .input))) (sym (c .before .before .«open» .ensures)) in
-    ended _ (l .link) (l .line) (l .up) (l .sum)
-    (start ∙ l .inv .3 ∙ bytes-end (now (a .line)) (now (a .up)) (l .link) (l .line) (l .up) (l .sum) (l .i) (now (a .input)) (c .loop-test .left))
+    let a = c .before .before .before .before .before .before .before .before .before .before .before .args in
+    ended _ _ _ _ _
+    (ap (λ (x : Link). bytesFed (checks (now (a .line)) (now (a .up)) passes) (at x (now (a .line)) (now (a .up)) 0) (now (a .input))) (sym (c .before .before .before .before .before .before .before .«open» .ensures))
+    ∙ c .before .before .before .before .fed .ensures)
 
 pub sarnaqel-bytes-spec : {M : Type 1} → statement M
 sarnaqel-bytes-spec =
-    tie.close
-    (tie.spec
-    Inv-loop
-    μ-loop
-    open-requires
-    loop-holds
-    shared-slice-read-byte
-    byte-requires
-    answer-number-requires
-    mix-requires
-    add-i
-    loop-less
-    loop-again
-    same-length
-    same-length-2
-    returns)
+    tie.close (tie.spec open-requires fed-requires same-length same-length-2 returns)

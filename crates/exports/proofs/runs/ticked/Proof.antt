@@ -7,8 +7,8 @@ use borrow.Author.Needs.{needs}
 use lib.ListN.{length}
 use denote.Ref.{now}
 use Rattle.link.specs.Calls.{checks, passes}
-use Rattle.exports.specs.Feeding.{ticksFed}
-use Rattle.exports.proofs.Feeds.{at, ticks-start, ticks-on, ticks-end, ended}
+use Rattle.exports.specs.Feeding.{at, ticksFed}
+use Rattle.exports.proofs.Feeds.{ticks-start, ticks-on, ticks-end, ended}
 use Rattle.exports.proofs.runs.ticked.Statement.{statement}
 use Rattle.exports.proofs.runs.ticked.Tie as tie
 

@@ -1,5 +1,6 @@
 -- `frame::reader::read` meets its contract: each answer is the one that its tests pick.
 -- Assumes nothing.
+use native.Mathlib.Nat.{add-sub-cancel}
 use native.Mathlib.Omega.{arith}
 use borrow.Author.Tests.{lt-ltb, le-ltb, eq-eqb, ne-eqb}
 use borrow.Author.Needs.{needs}
@@ -51,18 +52,46 @@ returns-6 c =
       lt-ltb _ _ (c .if6 .taken),
     )
 
+cast-end : tie.Need-cast-end
+cast-end c = search needs
+
+add-end : tie.Need-add-end
+add-end c = search needs
+
+sub-fold : tie.Need-sub-fold
+sub-fold c = search needs
+
+part-fold-start : tie.Need-part-fold-start
+part-fold-start c = search needs
+
+part-fold-end : tie.Need-part-fold-end
+part-fold-end c = search needs
+
+fold-requires : tie.Need-fold-requires
+fold-requires c κs = search needs
+
+shared-slice-read-measured : tie.Need-shared-slice-read-measured
+shared-slice-read-measured c = search needs
+
+shared-slice-read-measured-2 : tie.Need-shared-slice-read-measured-2
+shared-slice-read-measured-2 c = search needs
+
+shared-slice-read-measured-3 : tie.Need-shared-slice-read-measured-3
+shared-slice-read-measured-3 c = search needs
+
 measured-requires : tie.Need-measured-requires
 measured-requires c κs = search needs
 
 returns-7 : tie.Need-returns-7
 returns-7 c =
     simp (
-      ne-eqb _ _ (c .before .before .before .before .before .before .before .before .if1 .left),
-      eq-eqb _ _ (c .before .before .before .before .before .before .if2 .left),
-      ne-eqb _ _ (c .before .before .before .before .before .if3 .left),
-      le-ltb _ _ (c .before .before .before .if4 .left),
-      le-ltb _ _ (c .before .before .if5 .left),
-      le-ltb _ _ (c .before .if6 .left),
+      ne-eqb _ _ (c .before .before .before .before .before .before .before .before .before .before .before .before .before .if1 .left),
+      eq-eqb _ _ (c .before .before .before .before .before .before .before .before .before .before .before .if2 .left),
+      ne-eqb _ _ (c .before .before .before .before .before .before .before .before .before .before .if3 .left),
+      le-ltb _ _ (c .before .before .before .before .before .before .before .before .if4 .left),
+      le-ltb _ _ (c .before .before .before .before .before .before .before .if5 .left),
+      le-ltb _ _ (c .before .before .before .before .before .before .if6 .left),
+      ← (simp add-sub-cancel at (c .before .before .before .before .fold .ensures)),
     )
     (c .measured .ensures)
 
@@ -80,5 +109,14 @@ read-spec =
     returns-4
     returns-5
     returns-6
+    cast-end
+    add-end
+    sub-fold
+    part-fold-start
+    part-fold-end
+    fold-requires
+    shared-slice-read-measured
+    shared-slice-read-measured-2
+    shared-slice-read-measured-3
     measured-requires
     returns-7)
