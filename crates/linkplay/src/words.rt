@@ -1,31 +1,11 @@
-// The names of calls and the words of a report (section 7 of document 01).
-use crate::printing::put;
-use crate::printing::put_number;
-use crate::verb::LinkVerb;
+// The words of a report (section 7 of document 01).
 use link::Reception;
 use link::Report;
 use link::Reset;
 use link::Sending;
 use link::Session;
-
-// A call's name. One of many ticks is a tick.
-pub fn put_name(verb: LinkVerb, out: &mut [u8], waiting: usize) -> usize {
-    match verb {
-        LinkVerb::Send => put(b"send", out, waiting),
-        LinkVerb::Session => put(b"session", out, waiting),
-        LinkVerb::Byte => put(b"byte", out, waiting),
-        LinkVerb::Bytes => put(b"bytes", out, waiting),
-        LinkVerb::Tick => put(b"tick", out, waiting),
-        LinkVerb::Ticks => put(b"tick", out, waiting),
-        LinkVerb::Restart => put(b"restart", out, waiting),
-    }
-}
-
-// A word with its number.
-fn put_counted(word: &[u8], n: u64, out: &mut [u8], waiting: usize) -> usize {
-    let w = put(word, out, waiting);
-    put_number(n, out, w)
-}
+use script::put;
+use script::put_counted;
 
 fn put_reception(part: Reception, out: &mut [u8], waiting: usize) -> usize {
     match part {
@@ -88,56 +68,24 @@ pub fn put_parts(report: Report, out: &mut [u8], waiting: usize) -> usize {
     put_reset(reset, out, g)
 }
 
-fn is_unheard(part: Reception) -> bool {
-    if let Reception::Nothing = part {
-        true
-    } else {
-        false
-    }
-}
-
-fn is_unsent(part: Sending) -> bool {
-    if let Sending::Nothing = part {
-        true
-    } else {
-        false
-    }
-}
-
-fn is_unasked(part: Session) -> bool {
-    if let Session::Nothing = part {
-        true
-    } else {
-        false
-    }
-}
-
-fn is_unset(part: Reset) -> bool {
-    if let Reset::Nothing = part {
-        true
-    } else {
-        false
-    }
-}
-
 // Whether the report says nothing, in all four parts, and no byte was put out or handed up.
 pub fn is_nothing(report: Report) -> bool {
     let reception = report.reception;
     let sending = report.sending;
     let session = report.session;
     let reset = report.reset;
-    if !is_unheard(reception) {
+    let Reception::Nothing = reception else {
         return false;
-    }
-    if !is_unsent(sending) {
+    };
+    let Sending::Nothing = sending else {
         return false;
-    }
-    if !is_unasked(session) {
+    };
+    let Session::Nothing = session else {
         return false;
-    }
-    if !is_unset(reset) {
+    };
+    let Reset::Nothing = reset else {
         return false;
-    }
+    };
     if report.line != 0 {
         return false;
     }

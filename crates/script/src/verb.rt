@@ -1,4 +1,5 @@
 // The words that a line of a script begins with, and what each wants behind it.
+use crate::printing::put;
 use check::same;
 
 pub enum LinkVerb {
@@ -190,4 +191,37 @@ pub fn shape_of(verb: Verb) -> Shape {
         Verb::Blank => bytes(0, MANY),
         Verb::Unknown => bytes(0, MANY),
     }
+}
+
+// A call's name. One of many ticks is a tick.
+pub fn put_name(verb: LinkVerb, out: &mut [u8], waiting: usize) -> usize {
+    match verb {
+        LinkVerb::Send => put(b"send", out, waiting),
+        LinkVerb::Session => put(b"session", out, waiting),
+        LinkVerb::Byte => put(b"byte", out, waiting),
+        LinkVerb::Bytes => put(b"bytes", out, waiting),
+        LinkVerb::Tick => put(b"tick", out, waiting),
+        LinkVerb::Ticks => put(b"tick", out, waiting),
+        LinkVerb::Restart => put(b"restart", out, waiting),
+    }
+}
+
+pub fn is_tick(verb: LinkVerb) -> bool {
+    match verb {
+        LinkVerb::Send => false,
+        LinkVerb::Session => false,
+        LinkVerb::Byte => false,
+        LinkVerb::Bytes => false,
+        LinkVerb::Tick => true,
+        LinkVerb::Ticks => true,
+        LinkVerb::Restart => false,
+    }
+}
+
+// How often an order makes its call.
+pub fn times_of(verb: LinkVerb, n: u32) -> u32 {
+    let LinkVerb::Ticks = verb else {
+        return 1;
+    };
+    n
 }

@@ -34,6 +34,12 @@ pub fn put_number(n: u64, out: &mut [u8], waiting: usize) -> usize {
     put(&text[..k], out, waiting)
 }
 
+// A word with its number.
+pub fn put_counted(word: &[u8], n: u64, out: &mut [u8], waiting: usize) -> usize {
+    let w = put(word, out, waiting);
+    put_number(n, out, w)
+}
+
 // The hexadecimal digit of a number below 16, in upper case.
 fn digit(n: u8) -> u8 {
     if n < 10 {
@@ -85,6 +91,5 @@ pub fn put_end(is_spilled: bool, out: &mut [u8], waiting: usize) -> usize {
 }
 
 pub fn put_refused(refusal: Refusal, out: &mut [u8], waiting: usize) -> usize {
-    let w = put(b" refused=", out, waiting);
-    put_number(frame::number(refusal) as u64, out, w)
+    put_counted(b" refused=", frame::number(refusal) as u64, out, waiting)
 }
