@@ -101,8 +101,7 @@ fn call(verb: LinkVerb, link: Link, bytes: &[u8], line: &mut [u8], up: &mut [u8]
         }
         LinkVerb::Byte => told(link.byte(spelt_at(bytes, 0), line, up)),
         LinkVerb::Bytes => told_run(link.bytes(bytes, line, up)),
-        LinkVerb::Tick => told(link.tick(line, up)),
-        LinkVerb::Ticks => told(link.tick(line, up)),
+        LinkVerb::Tick | LinkVerb::Ticks => told(link.tick(line, up)),
         LinkVerb::Restart => told(link.restart(line, up)),
     }
 }
@@ -150,9 +149,8 @@ fn is_told(verb: LinkVerb, outcome: Outcome, spilled: bool) -> bool {
         return true;
     }
     match outcome {
-        Outcome::Refused(_) => true,
+        Outcome::Refused(_) | Outcome::Took(_, _) => true,
         Outcome::Done(report) => !is_nothing(report),
-        Outcome::Took(_, _) => true,
     }
 }
 

@@ -156,6 +156,16 @@ fn old_timeouts(body: &[u8], out: &mut [u8], waiting: usize) -> usize {
     }
 }
 
+// The size of the buffer that a call is lent: what its order says where it says one.
+fn room_of(verb: BodyVerb, size: u32) -> usize {
+    match verb {
+        BodyVerb::Nodes => 232,
+        BodyVerb::Timeouts => 7,
+        BodyVerb::NodesRoom | BodyVerb::TimeoutsRoom => size as usize,
+        BodyVerb::Capabilities | BodyVerb::TimeoutsRes => 0,
+    }
+}
+
 // The call on a body that an order asks for. The lent buffer is lent as far as the call is to have it.
 pub fn on_body(
     verb: BodyVerb,
@@ -165,24 +175,13 @@ pub fn on_body(
     out: &mut [u8],
     waiting: usize,
 ) -> usize {
+    let n = within(room_of(verb, numbers[0]), lent);
+    let part = &mut lent[0..n];
     match verb {
         BodyVerb::Capabilities => capabilities(bytes, out, waiting),
-        BodyVerb::Nodes => {
-            let n = within(232, lent);
-            nodes(bytes, &mut lent[0..n], out, waiting)
-        }
-        BodyVerb::NodesRoom => {
-            let n = within(numbers[0] as usize, lent);
-            nodes(bytes, &mut lent[0..n], out, waiting)
-        }
-        BodyVerb::Timeouts => {
-            let n = within(7, lent);
-            timeouts(numbers[0], numbers[1], &mut lent[0..n], out, waiting)
-        }
-        BodyVerb::TimeoutsRoom => {
-            let n = within(numbers[0] as usize, lent);
-            timeouts(numbers[1], numbers[2], &mut lent[0..n], out, waiting)
-        }
+        BodyVerb::Nodes | BodyVerb::NodesRoom => nodes(bytes, part, out, waiting),
+        BodyVerb::Timeouts => timeouts(numbers[0], numbers[1], part, out, waiting),
+        BodyVerb::TimeoutsRoom => timeouts(numbers[1], numbers[2], part, out, waiting),
         BodyVerb::TimeoutsRes => old_timeouts(bytes, out, waiting),
     }
 }

@@ -83,6 +83,15 @@ fn read(bytes: &[u8], out: &mut [u8], waiting: usize) -> usize {
     }
 }
 
+// The size of the buffer that a call is lent: what its order says where it says one.
+fn room_of(verb: FrameVerb, size: usize) -> usize {
+    match verb {
+        FrameVerb::Build => 257,
+        FrameVerb::BuildRoom => size,
+        FrameVerb::Read => 0,
+    }
+}
+
 // The call on a frame that an order asks for. The lent buffer is lent as far as the call is to have it.
 pub fn on_frame(
     verb: FrameVerb,
@@ -92,15 +101,9 @@ pub fn on_frame(
     out: &mut [u8],
     waiting: usize,
 ) -> usize {
+    let n = within(room_of(verb, size), lent);
     match verb {
-        FrameVerb::Build => {
-            let n = within(257, lent);
-            build(bytes, &mut lent[0..n], out, waiting)
-        }
-        FrameVerb::BuildRoom => {
-            let n = within(size, lent);
-            build(bytes, &mut lent[0..n], out, waiting)
-        }
+        FrameVerb::Build | FrameVerb::BuildRoom => build(bytes, &mut lent[0..n], out, waiting),
         FrameVerb::Read => read(bytes, out, waiting),
     }
 }

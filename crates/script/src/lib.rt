@@ -22,7 +22,6 @@ pub use printing::put;
 pub use printing::put_counted;
 pub use printing::put_end;
 pub use printing::put_front;
-pub use printing::put_number;
 pub use printing::put_refused;
 pub use verb::BodyVerb;
 pub use verb::FrameVerb;

@@ -16,11 +16,9 @@ pub fn on_other(
     let verb = order.verb;
     let numbers = order.numbers;
     match verb {
-        Verb::Link(_) => waiting,
         Verb::Frame(call) => on_frame(call, numbers[0] as usize, bytes, lent, out, waiting),
         Verb::Body(call) => on_body(call, numbers, bytes, lent, out, waiting),
-        Verb::Room => waiting,
-        Verb::Blank => waiting,
+        Verb::Link(_) | Verb::Room | Verb::Blank => waiting,
         Verb::Unknown => put(b"error\n", out, waiting),
     }
 }

@@ -200,21 +200,16 @@ pub fn put_name(verb: LinkVerb, out: &mut [u8], waiting: usize) -> usize {
         LinkVerb::Session => put(b"session", out, waiting),
         LinkVerb::Byte => put(b"byte", out, waiting),
         LinkVerb::Bytes => put(b"bytes", out, waiting),
-        LinkVerb::Tick => put(b"tick", out, waiting),
-        LinkVerb::Ticks => put(b"tick", out, waiting),
+        LinkVerb::Tick | LinkVerb::Ticks => put(b"tick", out, waiting),
         LinkVerb::Restart => put(b"restart", out, waiting),
     }
 }
 
 pub fn is_tick(verb: LinkVerb) -> bool {
     match verb {
-        LinkVerb::Send => false,
-        LinkVerb::Session => false,
-        LinkVerb::Byte => false,
-        LinkVerb::Bytes => false,
-        LinkVerb::Tick => true,
-        LinkVerb::Ticks => true,
-        LinkVerb::Restart => false,
+        LinkVerb::Tick | LinkVerb::Ticks => true,
+        LinkVerb::Send | LinkVerb::Session | LinkVerb::Byte => false,
+        LinkVerb::Bytes | LinkVerb::Restart => false,
     }
 }
 
