@@ -1,55 +1,65 @@
-// The words of a report (section 7 of document 01).
+// The words of a report (section 7 of document 01). Each part has a list of words, and each of its values a place in it.
 use link::Reception;
 use link::Report;
 use link::Reset;
 use link::Sending;
 use link::Session;
+use script::numbered;
+use script::plain;
 use script::put;
-use script::put_counted;
+use script::put_nth;
+use script::put_one;
 
 fn put_reception(part: Reception, out: &mut [u8], waiting: usize) -> usize {
-    match part {
-        Reception::Nothing => put(b"nothing", out, waiting),
-        Reception::Skipped => put(b"skipped", out, waiting),
-        Reception::BadLength => put(b"badlen", out, waiting),
-        Reception::Frame => put(b"frame", out, waiting),
-        Reception::Reserved => put(b"reserved", out, waiting),
-        Reception::BadSum => put(b"badsum", out, waiting),
-        Reception::Abort => put(b"abort", out, waiting),
-        Reception::StrayResponse => put(b"strayresponse", out, waiting),
-    }
+    let place = match part {
+        Reception::Nothing => 0,
+        Reception::Skipped => 1,
+        Reception::BadLength => 2,
+        Reception::Frame => 3,
+        Reception::Reserved => 4,
+        Reception::BadSum => 5,
+        Reception::Abort => 6,
+        Reception::StrayResponse => 7,
+    };
+    let list = b"nothing skipped badlen frame reserved badsum abort strayresponse";
+    put_nth(list, place, out, waiting)
 }
 
 fn put_sending(part: Sending, out: &mut [u8], waiting: usize) -> usize {
-    match part {
-        Sending::Nothing => put(b"nothing", out, waiting),
-        Sending::Stray => put(b"stray", out, waiting),
-        Sending::Due => put(b"due", out, waiting),
-        Sending::Copy(n) => put_counted(b"copy:", n as u64, out, waiting),
-        Sending::BackingOff(time) => put_counted(b"backoff:", time.0 as u64, out, waiting),
-        Sending::Acknowledged(n) => put_counted(b"acked:", n as u64, out, waiting),
-        Sending::Failed(n) => put_counted(b"failed:", n as u64, out, waiting),
-        Sending::Abandoned => put(b"abandoned", out, waiting),
-    }
+    let word = match part {
+        Sending::Nothing => plain(0),
+        Sending::Stray => plain(1),
+        Sending::Due => plain(2),
+        Sending::Copy(n) => numbered(3, n as u64),
+        Sending::BackingOff(time) => numbered(4, time.0 as u64),
+        Sending::Acknowledged(n) => numbered(5, n as u64),
+        Sending::Failed(n) => numbered(6, n as u64),
+        Sending::Abandoned => plain(7),
+    };
+    let list = b"nothing stray due copy: backoff: acked: failed: abandoned";
+    put_one(list, word, out, waiting)
 }
 
 fn put_session(part: Session, out: &mut [u8], waiting: usize) -> usize {
-    match part {
-        Session::Nothing => put(b"nothing", out, waiting),
-        Session::Waiting => put(b"waiting", out, waiting),
-        Session::Response(n) => put_counted(b"response:", n as u64, out, waiting),
-        Session::NoResponse(n) => put_counted(b"noresponse:", n as u64, out, waiting),
-        Session::NotSent(n) => put_counted(b"notsent:", n as u64, out, waiting),
-        Session::Abandoned => put(b"abandoned", out, waiting),
-    }
+    let word = match part {
+        Session::Nothing => plain(0),
+        Session::Waiting => plain(1),
+        Session::Response(n) => numbered(2, n as u64),
+        Session::NoResponse(n) => numbered(3, n as u64),
+        Session::NotSent(n) => numbered(4, n as u64),
+        Session::Abandoned => plain(5),
+    };
+    let list = b"nothing waiting response: noresponse: notsent: abandoned";
+    put_one(list, word, out, waiting)
 }
 
 fn put_reset(part: Reset, out: &mut [u8], waiting: usize) -> usize {
-    match part {
-        Reset::Nothing => put(b"none", out, waiting),
-        Reset::Sums => put(b"sums", out, waiting),
-        Reset::Delivery => put(b"delivery", out, waiting),
-    }
+    let place = match part {
+        Reset::Nothing => 0,
+        Reset::Sums => 1,
+        Reset::Delivery => 2,
+    };
+    put_nth(b"none sums delivery", place, out, waiting)
 }
 
 // The four parts.

@@ -45,7 +45,7 @@ enum Bytes {
 }
 
 // The end of the line's first word.
-fn word_end(text: &[u8]) -> usize
+pub fn word_end(text: &[u8]) -> usize
     ensures { λ r. ⌜ r ≤ length (now (text .entry)) ⌝ }
 {
     let mut i = 0;

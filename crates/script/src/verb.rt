@@ -1,5 +1,5 @@
 // The words that a line of a script begins with, and what each wants behind it.
-use crate::printing::put;
+use crate::printing::put_nth;
 use check::same;
 
 pub enum LinkVerb {
@@ -195,14 +195,15 @@ pub fn shape_of(verb: Verb) -> Shape {
 
 // A call's name. One of many ticks is a tick.
 pub fn put_name(verb: LinkVerb, out: &mut [u8], waiting: usize) -> usize {
-    match verb {
-        LinkVerb::Send => put(b"send", out, waiting),
-        LinkVerb::Session => put(b"session", out, waiting),
-        LinkVerb::Byte => put(b"byte", out, waiting),
-        LinkVerb::Bytes => put(b"bytes", out, waiting),
-        LinkVerb::Tick | LinkVerb::Ticks => put(b"tick", out, waiting),
-        LinkVerb::Restart => put(b"restart", out, waiting),
-    }
+    let place = match verb {
+        LinkVerb::Send => 0,
+        LinkVerb::Session => 1,
+        LinkVerb::Byte => 2,
+        LinkVerb::Bytes => 3,
+        LinkVerb::Tick | LinkVerb::Ticks => 4,
+        LinkVerb::Restart => 5,
+    };
+    put_nth(b"send session byte bytes tick restart", place, out, waiting)
 }
 
 pub fn is_tick(verb: LinkVerb) -> bool {
