@@ -1,8 +1,8 @@
 // Counting (document 01, section 9): what stands in raw bytes, heard as the link hears them, with no ticks.
-use link::End;
-use link::Event;
-use link::Hearing;
-use link::Single;
+use reception::End;
+use reception::Event;
+use reception::Hearing;
+use reception::Single;
 ghost use mathlib.Core.Path.{_≡_};
 ghost use Prim.Native.Nat.{_<_, _≤_};
 ghost use lib.ListN.{length, getD};
@@ -133,7 +133,7 @@ fn count_byte(tally: Tally, b: u8) -> Tally
     ensures { λ r. ⌜ r ≡ spec.countedByte b tally ⌝ }
 {
     let hearing = tally.hearing;
-    let heard = link::hear_byte(hearing, b);
+    let heard = reception::hear_byte(hearing, b);
     let event = heard.event;
     let after = heard.hearing;
     let counts = count_event(tally.counts, event);

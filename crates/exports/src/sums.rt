@@ -2,10 +2,10 @@
 use link::Answer;
 use link::Reception;
 use link::Report;
-use link::Reset;
+use sending::Reset;
 use link::RunAnswer;
-use link::Sending;
-use link::Session;
+use sending::Sending;
+use sending::Session;
 ghost use mathlib.Core.Path.{_≡_};
 ghost use Rattle.exports.specs.Numbers as spec;
 

@@ -1,16 +1,5 @@
 // The calls on the link, each with its line of output.
-use crate::lent::is_spilled;
-use crate::lent::restore;
-use crate::printing::put;
-use crate::printing::put_end;
-use crate::printing::put_front;
-use crate::printing::put_number;
-use crate::printing::put_refused;
-use crate::script::behind;
-use crate::script::spelt_at;
-use crate::verb::LinkVerb;
 use crate::words::is_nothing;
-use crate::words::put_name;
 use crate::words::put_parts;
 use frame::Refusal;
 use link::Answer;
@@ -19,6 +8,19 @@ use link::Link;
 use link::Ran;
 use link::Report;
 use link::RunAnswer;
+use script::LinkVerb;
+use script::behind;
+use script::is_spilled;
+use script::is_tick;
+use script::put;
+use script::put_counted;
+use script::put_end;
+use script::put_front;
+use script::put_name;
+use script::put_refused;
+use script::restore;
+use script::spelt_at;
+use script::times_of;
 
 // What lasts from call to call.
 pub struct Player {
@@ -55,77 +57,52 @@ struct Counts {
     pub up: usize,
 }
 
-fn outcome_of(answer: Answer) -> Outcome {
-    match answer {
-        Answer::Refused(refusal) => Outcome::Refused(refusal),
-        Answer::Done(report) => Outcome::Done(report),
-    }
-}
-
-fn outcome_of_run(answer: RunAnswer) -> Outcome {
-    match answer {
-        RunAnswer::Refused(refusal) => Outcome::Refused(refusal),
-        RunAnswer::Done(report, taken) => Outcome::Took(report, taken),
-    }
-}
-
 fn told(answered: Answered) -> Called {
     let link = answered.link;
     let answer = answered.answer;
-    let outcome = outcome_of(answer);
-    Called {
-        link: link,
-        outcome: outcome,
+    match answer {
+        Answer::Refused(refusal) => Called {
+            link: link,
+            outcome: Outcome::Refused(refusal),
+        },
+        Answer::Done(report) => Called {
+            link: link,
+            outcome: Outcome::Done(report),
+        },
     }
 }
 
 fn told_run(ran: Ran) -> Called {
     let link = ran.link;
     let answer = ran.answer;
-    let outcome = outcome_of_run(answer);
-    Called {
-        link: link,
-        outcome: outcome,
+    match answer {
+        RunAnswer::Refused(refusal) => Called {
+            link: link,
+            outcome: Outcome::Refused(refusal),
+        },
+        RunAnswer::Done(report, taken) => Called {
+            link: link,
+            outcome: Outcome::Took(report, taken),
+        },
     }
 }
 
-// The calls. The bytes are those of their lines in the script.
-fn send(link: Link, bytes: &[u8], line: &mut [u8], up: &mut [u8]) -> Called {
-    let kind = spelt_at(bytes, 0);
-    let command = spelt_at(bytes, 1);
-    told(link.send(kind, command, behind(bytes, 2), line, up))
-}
-
-fn session(link: Link, bytes: &[u8], line: &mut [u8], up: &mut [u8]) -> Called {
-    let command = spelt_at(bytes, 0);
-    told(link.session(command, behind(bytes, 1), line, up))
-}
-
-fn byte(link: Link, bytes: &[u8], line: &mut [u8], up: &mut [u8]) -> Called {
-    told(link.byte(spelt_at(bytes, 0), line, up))
-}
-
-fn run(link: Link, bytes: &[u8], line: &mut [u8], up: &mut [u8]) -> Called {
-    told_run(link.bytes(bytes, line, up))
-}
-
-fn tick(link: Link, line: &mut [u8], up: &mut [u8]) -> Called {
-    told(link.tick(line, up))
-}
-
-fn restart(link: Link, line: &mut [u8], up: &mut [u8]) -> Called {
-    told(link.restart(line, up))
-}
-
+// The call. The bytes are those of its line in the script.
 fn call(verb: LinkVerb, link: Link, bytes: &[u8], line: &mut [u8], up: &mut [u8]) -> Called {
     match verb {
-        LinkVerb::Send => send(link, bytes, line, up),
-        LinkVerb::Session => session(link, bytes, line, up),
-        LinkVerb::Byte => byte(link, bytes, line, up),
-        LinkVerb::Bytes => run(link, bytes, line, up),
-        LinkVerb::Tick => tick(link, line, up),
-        LinkVerb::Ticks => tick(link, line, up),
-        LinkVerb::Restart => restart(link, line, up),
+        LinkVerb::Send => {
+            let kind = spelt_at(bytes, 0);
+            let command = spelt_at(bytes, 1);
+            told(link.send(kind, command, behind(bytes, 2), line, up))
+        }
+        LinkVerb::Session => {
+            let command = spelt_at(bytes, 0);
+            told(link.session(command, behind(bytes, 1), line, up))
+        }
+        LinkVerb::Byte => told(link.byte(spelt_at(bytes, 0), line, up)),
+        LinkVerb::Bytes => told_run(link.bytes(bytes, line, up)),
+        LinkVerb::Tick | LinkVerb::Ticks => told(link.tick(line, up)),
+        LinkVerb::Restart => told(link.restart(line, up)),
     }
 }
 
@@ -141,26 +118,6 @@ fn counts_of(outcome: Outcome) -> Counts {
         Outcome::Refused(_) => Counts { line: 0, up: 0 },
         Outcome::Done(report) => counted(report),
         Outcome::Took(report, _) => counted(report),
-    }
-}
-
-fn is_quiet(outcome: Outcome) -> bool {
-    match outcome {
-        Outcome::Refused(_) => false,
-        Outcome::Done(report) => is_nothing(report),
-        Outcome::Took(_, _) => false,
-    }
-}
-
-fn is_tick(verb: LinkVerb) -> bool {
-    match verb {
-        LinkVerb::Send => false,
-        LinkVerb::Session => false,
-        LinkVerb::Byte => false,
-        LinkVerb::Bytes => false,
-        LinkVerb::Tick => true,
-        LinkVerb::Ticks => true,
-        LinkVerb::Restart => false,
     }
 }
 
@@ -191,7 +148,10 @@ fn is_told(verb: LinkVerb, outcome: Outcome, spilled: bool) -> bool {
     if spilled {
         return true;
     }
-    !is_quiet(outcome)
+    match outcome {
+        Outcome::Refused(_) | Outcome::Took(_, _) => true,
+        Outcome::Done(report) => !is_nothing(report),
+    }
 }
 
 fn put_report(report: Report, line: &[u8], up: &[u8], out: &mut [u8], waiting: usize) -> usize {
@@ -202,29 +162,18 @@ fn put_report(report: Report, line: &[u8], up: &[u8], out: &mut [u8], waiting: u
     put_front(up, report.up as usize, out, d)
 }
 
-fn put_taken(taken: usize, out: &mut [u8], waiting: usize) -> usize {
-    let w = put(b" taken=", out, waiting);
-    put_number(taken as u64, out, w)
-}
-
 fn put_outcome(outcome: Outcome, line: &[u8], up: &[u8], out: &mut [u8], waiting: usize) -> usize {
     match outcome {
         Outcome::Refused(refusal) => put_refused(refusal, out, waiting),
         Outcome::Done(report) => put_report(report, line, up, out, waiting),
         Outcome::Took(report, taken) => {
-            let w = put_taken(taken, out, waiting);
+            let w = put_counted(b" taken=", taken as u64, out, waiting);
             put_report(report, line, up, out, w)
         }
     }
 }
 
-// The name of the call, and when it was.
-fn put_call(verb: LinkVerb, ticks: u64, out: &mut [u8], waiting: usize) -> usize {
-    let a = put_name(verb, out, waiting);
-    let b = put(b" at=", out, a);
-    put_number(ticks, out, b)
-}
-
+// The name of the call, when it was, and what it answered.
 fn put_line(
     verb: LinkVerb,
     ticks: u64,
@@ -235,9 +184,10 @@ fn put_line(
     out: &mut [u8],
     waiting: usize,
 ) -> usize {
-    let a = put_call(verb, ticks, out, waiting);
-    let b = put_outcome(outcome, line, up, out, a);
-    put_end(spilled, out, b)
+    let a = put_name(verb, out, waiting);
+    let b = put_counted(b" at=", ticks, out, a);
+    let c = put_outcome(outcome, line, up, out, b);
+    put_end(spilled, out, c)
 }
 
 // The call's line of output, where it has one. The lent buffers are as before the call again.
@@ -261,22 +211,6 @@ fn tell(
     told
 }
 
-pub fn with_waiting(player: Player, waiting: usize) -> Player {
-    let mut next = player;
-    next.waiting = waiting;
-    next
-}
-
-// With the link that a call left, and the ticks accepted with it.
-fn with_call(player: Player, verb: LinkVerb, called: Called) -> Player {
-    let link = called.link;
-    let outcome = called.outcome;
-    let mut next = player;
-    next.link = link;
-    next.ticks = ticks_with(verb, outcome, player.ticks);
-    next
-}
-
 // One call with its line of output.
 fn play_once(
     verb: LinkVerb,
@@ -288,18 +222,14 @@ fn play_once(
 ) -> Player {
     let link = player.link;
     let called = call(verb, link, bytes, line, up);
+    let left = called.link;
     let outcome = called.outcome;
-    let next = with_call(player, verb, called);
-    let waiting = tell(verb, next.ticks, outcome, line, up, out, next.waiting);
-    with_waiting(next, waiting)
-}
-
-// How often an order makes its call.
-fn times_of(verb: LinkVerb, n: u32) -> u32 {
-    let LinkVerb::Ticks = verb else {
-        return 1;
-    };
-    n
+    let ticks = ticks_with(verb, outcome, player.ticks);
+    let mut next = player;
+    next.link = left;
+    next.ticks = ticks;
+    next.waiting = tell(verb, ticks, outcome, line, up, out, player.waiting);
+    next
 }
 
 // The calls on the link that an order asks for.

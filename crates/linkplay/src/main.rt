@@ -1,12 +1,6 @@
 // linkplay: plays a script of calls on the link. The script comes on standard input, a line for each call goes out.
-mod body_calls;
-mod frame_calls;
-mod lent;
 mod link_calls;
 mod play;
-mod printing;
-mod script;
-mod verb;
 mod words;
 
 // All the memory there is stands here, and is lent from here.

@@ -1,22 +1,16 @@
 // The play: the script is read, cut into lines, and each line is carried out.
-use crate::body_calls::on_body;
-use crate::frame_calls::on_frame;
-use crate::lent::fill;
-use crate::lent::within;
 use crate::link_calls::Player;
 use crate::link_calls::on_link;
-use crate::link_calls::with_waiting;
-use crate::printing::flush;
-use crate::printing::put;
-use crate::script::Order;
-use crate::script::order_of;
-use crate::verb::LinkVerb;
-use crate::verb::Verb;
 use libc::STDIN_FILENO;
 use link::Link;
-
-// A line longer than the text buffer counts as this many bytes.
-const TOO_LONG: usize = 4097;
+use script::Order;
+use script::Verb;
+use script::fill;
+use script::flush;
+use script::keep;
+use script::on_other;
+use script::order_of;
+use script::within;
 
 fn opened() -> Player {
     Player {
@@ -27,49 +21,6 @@ fn opened() -> Player {
         waiting: 0,
         kept: 0,
         is_over: false,
-    }
-}
-
-fn with_rooms(player: Player, line: usize, up: usize) -> Player {
-    let mut next = player;
-    next.line = line;
-    next.up = up;
-    next
-}
-
-fn on_lent(
-    verb: LinkVerb,
-    count: u32,
-    bytes: &[u8],
-    player: Player,
-    line: &mut [u8],
-    up: &mut [u8],
-    out: &mut [u8],
-) -> Player {
-    let n = within(player.line, line);
-    let k = within(player.up, up);
-    on_link(
-        verb,
-        count,
-        bytes,
-        player,
-        &mut line[0..n],
-        &mut up[0..k],
-        out,
-    )
-}
-
-// An order that needs no link.
-fn on_other(order: Order, bytes: &[u8], lent: &mut [u8], out: &mut [u8], waiting: usize) -> usize {
-    let verb = order.verb;
-    let numbers = order.numbers;
-    match verb {
-        Verb::Link(_) => waiting,
-        Verb::Frame(call) => on_frame(call, numbers[0] as usize, bytes, lent, out, waiting),
-        Verb::Body(call) => on_body(call, numbers, bytes, lent, out, waiting),
-        Verb::Room => waiting,
-        Verb::Blank => waiting,
-        Verb::Unknown => put(b"error\n", out, waiting),
     }
 }
 
@@ -85,13 +36,26 @@ fn carry(
     let verb = order.verb;
     let numbers = order.numbers;
     if let Verb::Link(call) = verb {
-        return on_lent(call, numbers[0], bytes, player, line, up, out);
+        let n = within(player.line, line);
+        let k = within(player.up, up);
+        return on_link(
+            call,
+            numbers[0],
+            bytes,
+            player,
+            &mut line[0..n],
+            &mut up[0..k],
+            out,
+        );
     }
+    let mut next = player;
     if let Verb::Room = verb {
-        return with_rooms(player, numbers[0] as usize, numbers[1] as usize);
+        next.line = numbers[0] as usize;
+        next.up = numbers[1] as usize;
+        return next;
     }
-    let waiting = on_other(order, bytes, line, out, player.waiting);
-    with_waiting(player, waiting)
+    next.waiting = on_other(order, bytes, line, out, player.waiting);
+    next
 }
 
 // One line of the script, of n bytes.
@@ -106,15 +70,6 @@ fn on_line(
     let order = order_of(text, n);
     let count = within(order.count, text);
     carry(order, &text[0..count], player, line, up, out)
-}
-
-// Keeps a byte of a line behind the first n, and answers how many the line has then.
-fn keep(b: u8, text: &mut [u8], n: usize) -> usize {
-    if n < text.len() {
-        text[n] = b;
-        return n + 1;
-    }
-    TOO_LONG
 }
 
 // A part of the script, which may begin and end inside a line.

@@ -1,75 +1,65 @@
-// The names of calls and the words of a report (section 7 of document 01).
-use crate::printing::put;
-use crate::printing::put_number;
-use crate::verb::LinkVerb;
+// The words of a report (section 7 of document 01). Each part has a list of words, and each of its values a place in it.
 use link::Reception;
 use link::Report;
-use link::Reset;
-use link::Sending;
-use link::Session;
-
-// A call's name. One of many ticks is a tick.
-pub fn put_name(verb: LinkVerb, out: &mut [u8], waiting: usize) -> usize {
-    match verb {
-        LinkVerb::Send => put(b"send", out, waiting),
-        LinkVerb::Session => put(b"session", out, waiting),
-        LinkVerb::Byte => put(b"byte", out, waiting),
-        LinkVerb::Bytes => put(b"bytes", out, waiting),
-        LinkVerb::Tick => put(b"tick", out, waiting),
-        LinkVerb::Ticks => put(b"tick", out, waiting),
-        LinkVerb::Restart => put(b"restart", out, waiting),
-    }
-}
-
-// A word with its number.
-fn put_counted(word: &[u8], n: u64, out: &mut [u8], waiting: usize) -> usize {
-    let w = put(word, out, waiting);
-    put_number(n, out, w)
-}
+use sending::Reset;
+use sending::Sending;
+use sending::Session;
+use script::numbered;
+use script::plain;
+use script::put;
+use script::put_nth;
+use script::put_one;
 
 fn put_reception(part: Reception, out: &mut [u8], waiting: usize) -> usize {
-    match part {
-        Reception::Nothing => put(b"nothing", out, waiting),
-        Reception::Skipped => put(b"skipped", out, waiting),
-        Reception::BadLength => put(b"badlen", out, waiting),
-        Reception::Frame => put(b"frame", out, waiting),
-        Reception::Reserved => put(b"reserved", out, waiting),
-        Reception::BadSum => put(b"badsum", out, waiting),
-        Reception::Abort => put(b"abort", out, waiting),
-        Reception::StrayResponse => put(b"strayresponse", out, waiting),
-    }
+    let place = match part {
+        Reception::Nothing => 0,
+        Reception::Skipped => 1,
+        Reception::BadLength => 2,
+        Reception::Frame => 3,
+        Reception::Reserved => 4,
+        Reception::BadSum => 5,
+        Reception::Abort => 6,
+        Reception::StrayResponse => 7,
+    };
+    let list = b"nothing skipped badlen frame reserved badsum abort strayresponse";
+    put_nth(list, place, out, waiting)
 }
 
 fn put_sending(part: Sending, out: &mut [u8], waiting: usize) -> usize {
-    match part {
-        Sending::Nothing => put(b"nothing", out, waiting),
-        Sending::Stray => put(b"stray", out, waiting),
-        Sending::Due => put(b"due", out, waiting),
-        Sending::Copy(n) => put_counted(b"copy:", n as u64, out, waiting),
-        Sending::BackingOff(time) => put_counted(b"backoff:", time.0 as u64, out, waiting),
-        Sending::Acknowledged(n) => put_counted(b"acked:", n as u64, out, waiting),
-        Sending::Failed(n) => put_counted(b"failed:", n as u64, out, waiting),
-        Sending::Abandoned => put(b"abandoned", out, waiting),
-    }
+    let word = match part {
+        Sending::Nothing => plain(0),
+        Sending::Stray => plain(1),
+        Sending::Due => plain(2),
+        Sending::Copy(n) => numbered(3, n as u64),
+        Sending::BackingOff(time) => numbered(4, time.0 as u64),
+        Sending::Acknowledged(n) => numbered(5, n as u64),
+        Sending::Failed(n) => numbered(6, n as u64),
+        Sending::Abandoned => plain(7),
+    };
+    let list = b"nothing stray due copy: backoff: acked: failed: abandoned";
+    put_one(list, word, out, waiting)
 }
 
 fn put_session(part: Session, out: &mut [u8], waiting: usize) -> usize {
-    match part {
-        Session::Nothing => put(b"nothing", out, waiting),
-        Session::Waiting => put(b"waiting", out, waiting),
-        Session::Response(n) => put_counted(b"response:", n as u64, out, waiting),
-        Session::NoResponse(n) => put_counted(b"noresponse:", n as u64, out, waiting),
-        Session::NotSent(n) => put_counted(b"notsent:", n as u64, out, waiting),
-        Session::Abandoned => put(b"abandoned", out, waiting),
-    }
+    let word = match part {
+        Session::Nothing => plain(0),
+        Session::Waiting => plain(1),
+        Session::Response(n) => numbered(2, n as u64),
+        Session::NoResponse(n) => numbered(3, n as u64),
+        Session::NotSent(n) => numbered(4, n as u64),
+        Session::Abandoned => plain(5),
+    };
+    let list = b"nothing waiting response: noresponse: notsent: abandoned";
+    put_one(list, word, out, waiting)
 }
 
 fn put_reset(part: Reset, out: &mut [u8], waiting: usize) -> usize {
-    match part {
-        Reset::Nothing => put(b"none", out, waiting),
-        Reset::Sums => put(b"sums", out, waiting),
-        Reset::Delivery => put(b"delivery", out, waiting),
-    }
+    let place = match part {
+        Reset::Nothing => 0,
+        Reset::Sums => 1,
+        Reset::Delivery => 2,
+    };
+    put_nth(b"none sums delivery", place, out, waiting)
 }
 
 // The four parts.
@@ -88,56 +78,24 @@ pub fn put_parts(report: Report, out: &mut [u8], waiting: usize) -> usize {
     put_reset(reset, out, g)
 }
 
-fn is_unheard(part: Reception) -> bool {
-    if let Reception::Nothing = part {
-        true
-    } else {
-        false
-    }
-}
-
-fn is_unsent(part: Sending) -> bool {
-    if let Sending::Nothing = part {
-        true
-    } else {
-        false
-    }
-}
-
-fn is_unasked(part: Session) -> bool {
-    if let Session::Nothing = part {
-        true
-    } else {
-        false
-    }
-}
-
-fn is_unset(part: Reset) -> bool {
-    if let Reset::Nothing = part {
-        true
-    } else {
-        false
-    }
-}
-
 // Whether the report says nothing, in all four parts, and no byte was put out or handed up.
 pub fn is_nothing(report: Report) -> bool {
     let reception = report.reception;
     let sending = report.sending;
     let session = report.session;
     let reset = report.reset;
-    if !is_unheard(reception) {
+    let Reception::Nothing = reception else {
         return false;
-    }
-    if !is_unsent(sending) {
+    };
+    let Sending::Nothing = sending else {
         return false;
-    }
-    if !is_unasked(session) {
+    };
+    let Session::Nothing = session else {
         return false;
-    }
-    if !is_unset(reset) {
+    };
+    let Reset::Nothing = reset else {
         return false;
-    }
+    };
     if report.line != 0 {
         return false;
     }

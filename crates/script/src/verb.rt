@@ -1,4 +1,5 @@
 // The words that a line of a script begins with, and what each wants behind it.
+use crate::printing::put_nth;
 use check::same;
 
 pub enum LinkVerb {
@@ -190,4 +191,33 @@ pub fn shape_of(verb: Verb) -> Shape {
         Verb::Blank => bytes(0, MANY),
         Verb::Unknown => bytes(0, MANY),
     }
+}
+
+// A call's name. One of many ticks is a tick.
+pub fn put_name(verb: LinkVerb, out: &mut [u8], waiting: usize) -> usize {
+    let place = match verb {
+        LinkVerb::Send => 0,
+        LinkVerb::Session => 1,
+        LinkVerb::Byte => 2,
+        LinkVerb::Bytes => 3,
+        LinkVerb::Tick | LinkVerb::Ticks => 4,
+        LinkVerb::Restart => 5,
+    };
+    put_nth(b"send session byte bytes tick restart", place, out, waiting)
+}
+
+pub fn is_tick(verb: LinkVerb) -> bool {
+    match verb {
+        LinkVerb::Tick | LinkVerb::Ticks => true,
+        LinkVerb::Send | LinkVerb::Session | LinkVerb::Byte => false,
+        LinkVerb::Bytes | LinkVerb::Restart => false,
+    }
+}
+
+// How often an order makes its call.
+pub fn times_of(verb: LinkVerb, n: u32) -> u32 {
+    let LinkVerb::Ticks = verb else {
+        return 1;
+    };
+    n
 }

@@ -1,4 +1,4 @@
--- `linkplay::script::number_of` is safe and ends. The invariant: i digits spell a number below 10 ^ i, and there are at most nine.
+-- `script::order::number_of` is safe and ends. The invariant: i digits spell a number below 10 ^ i, and there are at most nine.
 -- Assumes nothing.
 use borrow.Author.Needs.{needs}
 use Prim.Native.Nat.{ℕ, _≤_, _-_, _<_, _^_}
@@ -7,8 +7,8 @@ use native.Mathlib.Numerals.{add-one}
 use lib.Dec.{lit<}
 use native.Mathlib.Omega.{arith}
 use lib.ListN.{length}
-use Rattle.linkplay.proofs.script.number_of.Statement.{statement}
-use Rattle.linkplay.proofs.script.number_of.Tie as tie
+use Rattle.script.proofs.order.number_of.Statement.{statement}
+use Rattle.script.proofs.order.number_of.Tie as tie
 
 -- at most eight digits came before the last
 eight : (i : ℕ) → i ≤ 8 → 10 ^ i ≤ 10 ^ 8

@@ -1,9 +1,9 @@
--- `linkplay::body_calls::list_functions` is safe and ends. The invariant: no more functions are listed than were looked at, so the list of 255 has room.
+-- `script::body_calls::list_functions` is safe and ends. The invariant: no more functions are listed than were looked at, so the list of 255 has room.
 -- Assumes nothing.
 use borrow.Author.Needs.{needs}
 use Prim.Native.Nat.{_≤_, _-_}
-use Rattle.linkplay.proofs.body_calls.list_functions.Statement.{statement}
-use Rattle.linkplay.proofs.body_calls.list_functions.Tie as tie
+use Rattle.script.proofs.body_calls.list_functions.Statement.{statement}
+use Rattle.script.proofs.body_calls.list_functions.Tie as tie
 
 abbrev Inv-loop : tie.InvT-loop
 Inv-loop body list₀ n₀ f₀ list n f = n ≤ f

@@ -1,11 +1,11 @@
--- `linkplay::lent::fill` is safe and ends. The invariant: the buffer keeps its length.
+-- `script::lent::fill` is safe and ends. The invariant: the buffer keeps its length.
 -- Assumes nothing.
 use borrow.Author.Needs.{needs}
 use Prim.Native.Nat.{_-_}
 use mathlib.Core.Path.{_≡_}
 use lib.ListN.{length, length-set}
-use Rattle.linkplay.proofs.lent.fill.Statement.{statement}
-use Rattle.linkplay.proofs.lent.fill.Tie as tie
+use Rattle.script.proofs.lent.fill.Statement.{statement}
+use Rattle.script.proofs.lent.fill.Tie as tie
 
 abbrev Inv-loop : tie.InvT-loop
 Inv-loop lent₀ i₀ lent i = length lent ≡ length lent₀

@@ -1,11 +1,11 @@
--- `linkplay::printing::put_bytes` is safe and ends. The invariant: the output buffer keeps its length.
+-- `script::printing::put_bytes` is safe and ends. The invariant: the output buffer keeps its length.
 -- Assumes nothing.
 use borrow.Author.Needs.{needs}
 use Prim.Native.Nat.{_-_}
 use mathlib.Core.Path.{_≡_}
 use lib.ListN.{length}
-use Rattle.linkplay.proofs.printing.put_bytes.Statement.{statement}
-use Rattle.linkplay.proofs.printing.put_bytes.Tie as tie
+use Rattle.script.proofs.printing.put_bytes.Statement.{statement}
+use Rattle.script.proofs.printing.put_bytes.Tie as tie
 
 abbrev Inv-loop : tie.InvT-loop
 Inv-loop bytes out₀ waiting now₀ i₀ out now i = length out ≡ length out₀

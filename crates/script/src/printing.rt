@@ -1,6 +1,31 @@
 // The output: text waits in one buffer, which is written when it is full and at the end.
+use crate::order::behind;
+use crate::order::word_end;
 use frame::Refusal;
 use libc::STDOUT_FILENO;
+
+// A word of a list, by its place in it, and the number behind it where it has one.
+pub struct Word {
+    pub place: usize,
+    pub is_numbered: bool,
+    pub number: u64,
+}
+
+pub fn plain(place: usize) -> Word {
+    Word {
+        place: place,
+        is_numbered: false,
+        number: 0,
+    }
+}
+
+pub fn numbered(place: usize, number: u64) -> Word {
+    Word {
+        place: place,
+        is_numbered: true,
+        number: number,
+    }
+}
 
 // Writes what waits: the first bytes of the buffer.
 pub fn flush(out: &[u8], waiting: usize) {
@@ -32,6 +57,41 @@ pub fn put_number(n: u64, out: &mut [u8], waiting: usize) -> usize {
     let mut text = [0u8; 20];
     let k = io::decimal(n, &mut text);
     put(&text[..k], out, waiting)
+}
+
+// A word with its number.
+pub fn put_counted(word: &[u8], n: u64, out: &mut [u8], waiting: usize) -> usize {
+    let w = put(word, out, waiting);
+    put_number(n, out, w)
+}
+
+// Where the word at a place of a list begins. A space stands before each but the first.
+fn word_start(list: &[u8], place: usize) -> usize {
+    let mut left = place;
+    let mut i = 0;
+    while i < list.len() && left > 0 {
+        if list[i] == b' ' {
+            left -= 1;
+        }
+        i += 1;
+    }
+    i
+}
+
+// The word at a place of a list.
+pub fn put_nth(list: &[u8], place: usize, out: &mut [u8], waiting: usize) -> usize {
+    let rest = behind(list, word_start(list, place));
+    let n = word_end(rest);
+    put(&rest[0..n], out, waiting)
+}
+
+// The same with its number.
+pub fn put_one(list: &[u8], word: Word, out: &mut [u8], waiting: usize) -> usize {
+    let w = put_nth(list, word.place, out, waiting);
+    if word.is_numbered {
+        return put_number(word.number, out, w);
+    }
+    w
 }
 
 // The hexadecimal digit of a number below 16, in upper case.
@@ -85,6 +145,5 @@ pub fn put_end(is_spilled: bool, out: &mut [u8], waiting: usize) -> usize {
 }
 
 pub fn put_refused(refusal: Refusal, out: &mut [u8], waiting: usize) -> usize {
-    let w = put(b" refused=", out, waiting);
-    put_number(frame::number(refusal) as u64, out, w)
+    put_counted(b" refused=", frame::number(refusal) as u64, out, waiting)
 }

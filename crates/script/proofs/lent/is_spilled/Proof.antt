@@ -1,10 +1,10 @@
--- `linkplay::lent::is_spilled` is safe and ends. Nothing has to hold from turn to turn.
+-- `script::lent::is_spilled` is safe and ends. Nothing has to hold from turn to turn.
 -- Assumes nothing.
 use borrow.Author.Needs.{needs}
 use Prim.Native.Nat.{_-_}
 use lib.ListN.{length}
-use Rattle.linkplay.proofs.lent.is_spilled.Statement.{statement}
-use Rattle.linkplay.proofs.lent.is_spilled.Tie as tie
+use Rattle.script.proofs.lent.is_spilled.Statement.{statement}
+use Rattle.script.proofs.lent.is_spilled.Tie as tie
 
 abbrev Inv-loop : tie.InvT-loop
 Inv-loop lent n differ₀ i₀ differ i = Unit {0}

@@ -1,9 +1,9 @@
--- `linkplay::script::with_more` is safe and ends. Nothing has to hold from turn to turn.
+-- `script::order::with_more` is safe and ends. Nothing has to hold from turn to turn.
 -- Assumes nothing.
 use borrow.Author.Needs.{needs}
 use Prim.Native.Nat.{_-_}
-use Rattle.linkplay.proofs.script.with_more.Statement.{statement}
-use Rattle.linkplay.proofs.script.with_more.Tie as tie
+use Rattle.script.proofs.order.with_more.Statement.{statement}
+use Rattle.script.proofs.order.with_more.Tie as tie
 
 abbrev Inv-loop : tie.InvT-loop
 Inv-loop text count most all₀ i₀ all i = Unit {0}

@@ -1,11 +1,11 @@
--- `linkplay::script::spell` is safe and ends. The invariant: the bytes put over the front are behind the place that is read.
+-- `script::order::spell` is safe and ends. The invariant: the bytes put over the front are behind the place that is read.
 -- Assumes nothing.
 use borrow.Author.Needs.{needs}
 use Prim.Native.Nat.{_≤_, _-_}
 use mathlib.Core.Path.{_≡_}
 use lib.ListN.{length}
-use Rattle.linkplay.proofs.script.spell.Statement.{statement}
-use Rattle.linkplay.proofs.script.spell.Tie as tie
+use Rattle.script.proofs.order.spell.Statement.{statement}
+use Rattle.script.proofs.order.spell.Tie as tie
 
 abbrev Inv-loop : tie.InvT-loop
 Inv-loop text₀ from at₀ n₀ text at n = (length text ≡ length text₀) × (at ≤ length text₀) × (n ≤ at)

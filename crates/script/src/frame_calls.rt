@@ -2,13 +2,13 @@
 use crate::lent::is_spilled;
 use crate::lent::restore;
 use crate::lent::within;
+use crate::order::behind;
+use crate::order::spelt_at;
 use crate::printing::put;
 use crate::printing::put_end;
 use crate::printing::put_front;
 use crate::printing::put_named;
 use crate::printing::put_refused;
-use crate::script::behind;
-use crate::script::spelt_at;
 use crate::verb::FrameVerb;
 use frame::Built;
 use frame::Reading;
@@ -36,17 +36,7 @@ pub fn put_refusal(
     put_end(spilled, out, b)
 }
 
-// The line of a call that wrote a frame of n bytes; the lent buffer is as before it again.
-fn put_written(name: &[u8], n: usize, lent: &mut [u8], out: &mut [u8], waiting: usize) -> usize {
-    let a = put(name, out, waiting);
-    let b = put(b" ok ", out, a);
-    let c = put_front(lent, n, out, b);
-    let spilled = is_spilled(lent, n);
-    restore(lent, n);
-    put_end(spilled, out, c)
-}
-
-// The line of a call that writes a frame.
+// The line of a call that writes a frame; the lent buffer is as before it again.
 pub fn put_built(
     name: &[u8],
     answer: Built,
@@ -56,7 +46,15 @@ pub fn put_built(
 ) -> usize {
     match answer {
         Built::Refused(refusal) => put_refusal(name, refusal, lent, out, waiting),
-        Built::Frame(n) => put_written(name, n as usize, lent, out, waiting),
+        Built::Frame(count) => {
+            let n = count as usize;
+            let a = put(name, out, waiting);
+            let b = put(b" ok ", out, a);
+            let c = put_front(lent, n, out, b);
+            let spilled = is_spilled(lent, n);
+            restore(lent, n);
+            put_end(spilled, out, c)
+        }
     }
 }
 
@@ -67,22 +65,7 @@ fn build(bytes: &[u8], lent: &mut [u8], out: &mut [u8], waiting: usize) -> usize
     put_built(b"build", answer, lent, out, waiting)
 }
 
-// The parts of a frame that was read: its parameters are `count` bytes from the fifth on.
-fn put_frame(
-    kind: u8,
-    command: u8,
-    parameters: &[u8],
-    count: u8,
-    out: &mut [u8],
-    waiting: usize,
-) -> usize {
-    let a = put_named(b"read ok type=", kind, out, waiting);
-    let b = put_named(b" command=", command, out, a);
-    let c = put(b" parameters=", out, b);
-    let d = put_front(parameters, count as usize, out, c);
-    put_end(false, out, d)
-}
-
+// The parameters of a frame that was read are `count` bytes from the fifth on.
 fn read(bytes: &[u8], out: &mut [u8], waiting: usize) -> usize {
     match frame::read(bytes) {
         Reading::Refused(refusal) => put_no(b"read", refusal, out, waiting),
@@ -90,7 +73,22 @@ fn read(bytes: &[u8], out: &mut [u8], waiting: usize) -> usize {
             kind,
             command,
             count,
-        } => put_frame(kind, command, behind(bytes, 4), count, out, waiting),
+        } => {
+            let a = put_named(b"read ok type=", kind, out, waiting);
+            let b = put_named(b" command=", command, out, a);
+            let c = put(b" parameters=", out, b);
+            let d = put_front(behind(bytes, 4), count as usize, out, c);
+            put_end(false, out, d)
+        }
+    }
+}
+
+// The size of the buffer that a call is lent: what its order says where it says one.
+fn room_of(verb: FrameVerb, size: usize) -> usize {
+    match verb {
+        FrameVerb::Build => 257,
+        FrameVerb::BuildRoom => size,
+        FrameVerb::Read => 0,
     }
 }
 
@@ -103,15 +101,9 @@ pub fn on_frame(
     out: &mut [u8],
     waiting: usize,
 ) -> usize {
+    let n = within(room_of(verb, size), lent);
     match verb {
-        FrameVerb::Build => {
-            let n = within(257, lent);
-            build(bytes, &mut lent[0..n], out, waiting)
-        }
-        FrameVerb::BuildRoom => {
-            let n = within(size, lent);
-            build(bytes, &mut lent[0..n], out, waiting)
-        }
+        FrameVerb::Build | FrameVerb::BuildRoom => build(bytes, &mut lent[0..n], out, waiting),
         FrameVerb::Read => read(bytes, out, waiting),
     }
 }

@@ -10,6 +10,8 @@ ghost use lib.ListN.{length};
 const MOST_SIZE: u32 = 600;
 // A number has at most nine digits.
 const MOST_NUMBER: u32 = 999999999;
+// A line longer than the text buffer counts as this many bytes.
+const TOO_LONG: usize = 4097;
 
 // What a line asks for. The verb is unknown where the line is an error. The bytes that its words spell stand over its own front.
 pub struct Order {
@@ -43,7 +45,7 @@ enum Bytes {
 }
 
 // The end of the line's first word.
-fn word_end(text: &[u8]) -> usize
+pub fn word_end(text: &[u8]) -> usize
     ensures { λ r. ⌜ r ≤ length (now (text .entry)) ⌝ }
 {
     let mut i = 0;
@@ -102,17 +104,17 @@ fn number_at(text: &[u8], at: usize) -> Number {
     number_of(&rest[0..n], at + 1 + n)
 }
 
-fn no_numbers(next: usize) -> Numbers {
-    Numbers {
-        values: [0; 3],
-        count: 0,
-        next: next,
-        is_wrong: false,
+// With the next number of the line, which is at most so large.
+fn with_next(numbers: Numbers, text: &[u8], most: u32) -> Numbers {
+    let mut wrong = numbers;
+    wrong.is_wrong = true;
+    let found = number_at(text, numbers.next);
+    let Number::Value(number, next) = found else {
+        return wrong;
+    };
+    if most < number {
+        return wrong;
     }
-}
-
-// With this number behind the others.
-fn with_number(numbers: Numbers, number: u32, next: usize) -> Numbers {
     let mut longer = numbers;
     let at = longer.count;
     if at < 3 {
@@ -121,21 +123,6 @@ fn with_number(numbers: Numbers, number: u32, next: usize) -> Numbers {
     }
     longer.next = next;
     longer
-}
-
-// With the next number of the line, which is at most so large.
-fn with_next(numbers: Numbers, text: &[u8], most: u32) -> Numbers {
-    let next = numbers.next;
-    let mut wrong = numbers;
-    wrong.is_wrong = true;
-    let found = number_at(text, next);
-    let Number::Value(number, behind) = found else {
-        return wrong;
-    };
-    if most < number {
-        return wrong;
-    }
-    with_number(numbers, number, behind)
 }
 
 // With so many further numbers of the line.
@@ -221,12 +208,27 @@ fn order_in(text: &mut [u8]) -> Order {
     let end = word_end(text);
     let verb = verb_of(&text[0..end]);
     let shape = shape_of(verb);
-    let sizes = with_more(no_numbers(end), text, shape.sizes, MOST_SIZE);
+    let none = Numbers {
+        values: [0; 3],
+        count: 0,
+        next: end,
+        is_wrong: false,
+    };
+    let sizes = with_more(none, text, shape.sizes, MOST_SIZE);
     let numbers = with_more(sizes, text, shape.numbers, MOST_NUMBER);
     if numbers.is_wrong {
         return wordless(Verb::Unknown);
     }
     with_bytes(verb, numbers, text, shape.least, shape.most)
+}
+
+// Keeps a byte of a line behind the first n, and answers how many the line has then.
+pub fn keep(b: u8, text: &mut [u8], n: usize) -> usize {
+    if n < text.len() {
+        text[n] = b;
+        return n + 1;
+    }
+    TOO_LONG
 }
 
 // What a line of n bytes asks for, of which the text has as many as it has room for.

@@ -1,10 +1,10 @@
--- `linkplay::script::word_end` is safe and ends, and meets its contract. The invariant: the place is within the line.
+-- `script::order::word_end` is safe and ends, and meets its contract. The invariant: the place is within the line.
 -- Assumes nothing.
 use borrow.Author.Needs.{needs}
 use Prim.Native.Nat.{_≤_, _-_}
 use lib.ListN.{length}
-use Rattle.linkplay.proofs.script.word_end.Statement.{statement}
-use Rattle.linkplay.proofs.script.word_end.Tie as tie
+use Rattle.script.proofs.order.word_end.Statement.{statement}
+use Rattle.script.proofs.order.word_end.Tie as tie
 
 abbrev Inv-loop : tie.InvT-loop
 Inv-loop text i₀ i = i ≤ length text

@@ -7,35 +7,16 @@ use crate::lent::restore;
 use crate::lent::within;
 use crate::printing::put;
 use crate::printing::put_byte;
+use crate::printing::put_counted;
 use crate::printing::put_end;
 use crate::printing::put_front;
 use crate::printing::put_named;
-use crate::printing::put_number;
 use crate::verb::BodyVerb;
 use bodies::Capabilities;
 use bodies::NodeList;
 use bodies::OldTimeouts;
 use bodies::Support;
 use units::Millis;
-
-// The values of a capabilities body.
-struct Abilities {
-    pub version: u8,
-    pub revision: u8,
-    pub manufacturer: u16,
-    pub product_type: u16,
-    pub product_id: u16,
-    pub supported: u16,
-}
-
-// The values of a node list, of which the nodes are the first `count` bytes of the lent list.
-struct Network {
-    pub version: u8,
-    pub capabilities: u8,
-    pub count: u8,
-    pub chip_type: u8,
-    pub chip_version: u8,
-}
 
 fn is_supported(body: &[u8], f: u8) -> bool {
     match bodies::supports(body, f) {
@@ -78,21 +59,20 @@ fn put_word(word: u16, out: &mut [u8], waiting: usize) -> usize {
 }
 
 // The eight fixed bytes, from the values that were read.
-fn put_fixed(found: Abilities, out: &mut [u8], waiting: usize) -> usize {
-    let a = put_byte(found.version, out, waiting);
-    let b = put_byte(found.revision, out, a);
-    let c = put_word(found.manufacturer, out, b);
-    let d = put_word(found.product_type, out, c);
-    put_word(found.product_id, out, d)
-}
-
-fn put_abilities(found: Abilities, body: &[u8], out: &mut [u8], waiting: usize) -> usize {
-    let a = put(b"capabilities ok fixed=", out, waiting);
-    let b = put_fixed(found, out, a);
-    let c = put(b" count=", out, b);
-    let d = put_number(found.supported as u64, out, c);
-    let e = put_functions(body, out, d);
-    put_end(false, out, e)
+fn put_fixed(
+    version: u8,
+    revision: u8,
+    manufacturer: u16,
+    product_type: u16,
+    product_id: u16,
+    out: &mut [u8],
+    waiting: usize,
+) -> usize {
+    let a = put_byte(version, out, waiting);
+    let b = put_byte(revision, out, a);
+    let c = put_word(manufacturer, out, b);
+    let d = put_word(product_type, out, c);
+    put_word(product_id, out, d)
 }
 
 fn capabilities(body: &[u8], out: &mut [u8], waiting: usize) -> usize {
@@ -106,37 +86,39 @@ fn capabilities(body: &[u8], out: &mut [u8], waiting: usize) -> usize {
             product_id,
             supported,
         } => {
-            let found = Abilities {
-                version: version,
-                revision: revision,
-                manufacturer: manufacturer,
-                product_type: product_type,
-                product_id: product_id,
-                supported: supported,
-            };
-            put_abilities(found, body, out, waiting)
+            let a = put(b"capabilities ok fixed=", out, waiting);
+            let b = put_fixed(
+                version,
+                revision,
+                manufacturer,
+                product_type,
+                product_id,
+                out,
+                a,
+            );
+            let c = put_counted(b" count=", supported as u64, out, b);
+            let d = put_functions(body, out, c);
+            put_end(false, out, d)
         }
     }
 }
 
-fn put_network(found: Network, list: &[u8], out: &mut [u8], waiting: usize) -> usize {
-    let a = put_named(b"nodes ok version=", found.version, out, waiting);
-    let b = put_named(b" capabilities=", found.capabilities, out, a);
+// A node list as far as its nodes, which are the first n bytes of the lent list.
+fn put_nodes(
+    version: u8,
+    capabilities: u8,
+    list: &[u8],
+    n: usize,
+    out: &mut [u8],
+    waiting: usize,
+) -> usize {
+    let a = put_named(b"nodes ok version=", version, out, waiting);
+    let b = put_named(b" capabilities=", capabilities, out, a);
     let c = put(b" nodes=", out, b);
-    let d = put_front(list, found.count as usize, out, c);
-    let e = put_named(b" chip=", found.chip_type, out, d);
-    put_named(b" chipversion=", found.chip_version, out, e)
+    put_front(list, n, out, c)
 }
 
-// The line of a node list that was read; the lent list is as before the call again.
-fn put_nodes(found: Network, list: &mut [u8], out: &mut [u8], waiting: usize) -> usize {
-    let n = found.count as usize;
-    let w = put_network(found, list, out, waiting);
-    let spilled = is_spilled(list, n);
-    restore(list, n);
-    put_end(spilled, out, w)
-}
-
+// The line of a node list; the lent list is as before the call again.
 fn nodes(body: &[u8], list: &mut [u8], out: &mut [u8], waiting: usize) -> usize {
     match bodies::read_nodes(body, list) {
         NodeList::Refused(refusal) => put_refusal(b"nodes", refusal, list, out, waiting),
@@ -147,14 +129,13 @@ fn nodes(body: &[u8], list: &mut [u8], out: &mut [u8], waiting: usize) -> usize 
             chip_type,
             chip_version,
         } => {
-            let found = Network {
-                version: version,
-                capabilities: capabilities,
-                count: count,
-                chip_type: chip_type,
-                chip_version: chip_version,
-            };
-            put_nodes(found, list, out, waiting)
+            let n = count as usize;
+            let a = put_nodes(version, capabilities, list, n, out, waiting);
+            let b = put_named(b" chip=", chip_type, out, a);
+            let c = put_named(b" chipversion=", chip_version, out, b);
+            let spilled = is_spilled(list, n);
+            restore(list, n);
+            put_end(spilled, out, c)
         }
     }
 }
@@ -168,12 +149,20 @@ fn old_timeouts(body: &[u8], out: &mut [u8], waiting: usize) -> usize {
     match bodies::read_timeouts(body) {
         OldTimeouts::Refused(refusal) => put_no(b"timeoutsres", refusal, out, waiting),
         OldTimeouts::Were { rxack, rxbyte } => {
-            let a = put(b"timeoutsres ok ", out, waiting);
-            let b = put_number(rxack.0 as u64, out, a);
-            let c = put(b" ", out, b);
-            let d = put_number(rxbyte.0 as u64, out, c);
-            put_end(false, out, d)
+            let a = put_counted(b"timeoutsres ok ", rxack.0 as u64, out, waiting);
+            let b = put_counted(b" ", rxbyte.0 as u64, out, a);
+            put_end(false, out, b)
         }
+    }
+}
+
+// The size of the buffer that a call is lent: what its order says where it says one.
+fn room_of(verb: BodyVerb, size: u32) -> usize {
+    match verb {
+        BodyVerb::Nodes => 232,
+        BodyVerb::Timeouts => 7,
+        BodyVerb::NodesRoom | BodyVerb::TimeoutsRoom => size as usize,
+        BodyVerb::Capabilities | BodyVerb::TimeoutsRes => 0,
     }
 }
 
@@ -186,24 +175,13 @@ pub fn on_body(
     out: &mut [u8],
     waiting: usize,
 ) -> usize {
+    let n = within(room_of(verb, numbers[0]), lent);
+    let part = &mut lent[0..n];
     match verb {
         BodyVerb::Capabilities => capabilities(bytes, out, waiting),
-        BodyVerb::Nodes => {
-            let n = within(232, lent);
-            nodes(bytes, &mut lent[0..n], out, waiting)
-        }
-        BodyVerb::NodesRoom => {
-            let n = within(numbers[0] as usize, lent);
-            nodes(bytes, &mut lent[0..n], out, waiting)
-        }
-        BodyVerb::Timeouts => {
-            let n = within(7, lent);
-            timeouts(numbers[0], numbers[1], &mut lent[0..n], out, waiting)
-        }
-        BodyVerb::TimeoutsRoom => {
-            let n = within(numbers[0] as usize, lent);
-            timeouts(numbers[1], numbers[2], &mut lent[0..n], out, waiting)
-        }
+        BodyVerb::Nodes | BodyVerb::NodesRoom => nodes(bytes, part, out, waiting),
+        BodyVerb::Timeouts => timeouts(numbers[0], numbers[1], part, out, waiting),
+        BodyVerb::TimeoutsRoom => timeouts(numbers[1], numbers[2], part, out, waiting),
         BodyVerb::TimeoutsRes => old_timeouts(bytes, out, waiting),
     }
 }
