@@ -2,8 +2,8 @@
 use link::Answer;
 use link::Reception;
 use link::Report;
-use sending::Reset;
 use link::RunAnswer;
+use sending::Reset;
 use sending::Sending;
 use sending::Session;
 ghost use mathlib.Core.Path.{_≡_};

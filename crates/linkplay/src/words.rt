@@ -1,14 +1,14 @@
 // The words of a report (section 7 of document 01). Each part has a list of words, and each of its values a place in it.
 use link::Reception;
 use link::Report;
-use sending::Reset;
-use sending::Sending;
-use sending::Session;
 use script::numbered;
 use script::plain;
 use script::put;
 use script::put_nth;
 use script::put_one;
+use sending::Reset;
+use sending::Sending;
+use sending::Session;
 
 fn put_reception(part: Reception, out: &mut [u8], waiting: usize) -> usize {
     let place = match part {
