@@ -29,14 +29,14 @@ use Rattle.link.specs.declared.state.Link.{Link}
 use Rattle.sending.specs.Rules.{Rules, told}
 use Rattle.reception.specs.Hearing.{heard, heardByte, heardTick, keep}
 use Rattle.reception.specs.Hearing as spec
-use Rattle.sending.specs.Job.{goesOn, awaits, lose, onSingle, onEnd}
+use Rattle.sending.specs.Job.{goesOn, awaits, isOpen, lose, onSingle, onEnd}
 use Rattle.sending.specs.declared.report.Sending.the-variants as sending
 use Rattle.link.specs.Report.{either, newsReception, newsSending, saidEnd, saidOn}
 use Rattle.sending.specs.declared.report.Reset.{Reset}
 use Rattle.sending.specs.declared.report.Reset.the-variants as reset
 use Rattle.link.specs.Step.{Out, Taken, out, decideOn, byteOut, news, quiet, runFrom, runOut}
 use Rattle.reception.specs.Run.{Far, newsByte, behind, hearFrom, start}
-use Rattle.reception.proofs.Stages.{no}
+use Rattle.reception.proofs.Turns.{no}
 
 pick-ok : {A : Type 0} (P : A → Type 0) (x : Bool) (a b : A) → P a → P b → P (pick x a b)
 pick-ok P true a b p q = p
@@ -47,6 +47,14 @@ pub either-none : (x : Reset) → either x reset.Nothing ≡ x
 either-none reset.Nothing = refl
 either-none reset.Sums = refl
 either-none reset.Delivery = refl
+
+-- a job that is not open is idle
+pub idle-of : (j : Job) → isOpen j ≡ false → j ≡ Idle
+idle-of Idle h = refl
+idle-of (Due a n) h = absurd (no h)
+idle-of (Waiting a n e) h = absurd (no h)
+idle-of (BackingOff a n l) h = absurd (no h)
+idle-of (Awaiting c n e) h = absurd (no h)
 
 -- nor is a frame's end
 pub idle-ended : (e : End) → onEnd e Idle ≡ goesOn Idle sending.Nothing

@@ -16,6 +16,7 @@ use sending::Job;
 use sending::Reset;
 use sending::Sending;
 use sending::Session;
+use sending::is_open;
 use sending::on_abort;
 use sending::on_event;
 use sending::on_restart;
@@ -122,28 +123,10 @@ fn decide_idle(bad: u8, event: Event) -> Outcome
 pub fn decide(job: Job, bad: u8, size: u16, event: Event) -> Outcome
     ensures { λ r. ⌜ r ≡ spec.outcomeOn base size event job bad ⌝ }
 {
-    match job {
-        Job::Idle => decide_idle(bad, event),
-        Job::Due {
-            asking: _,
-            copies: _,
-        } => decide_on(job, bad, size, event),
-        Job::Waiting {
-            asking: _,
-            copies: _,
-            elapsed: _,
-        } => decide_on(job, bad, size, event),
-        Job::BackingOff {
-            asking: _,
-            copies: _,
-            left: _,
-        } => decide_on(job, bad, size, event),
-        Job::Awaiting {
-            command: _,
-            copies: _,
-            elapsed: _,
-        } => decide_on(job, bad, size, event),
+    if is_open(job) {
+        return decide_on(job, bad, size, event);
     }
+    decide_idle(bad, event)
 }
 
 // An act with which reception has this much to say, and no byte of its own.

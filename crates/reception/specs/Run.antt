@@ -6,7 +6,7 @@ use mathlib.Core.List.{List, [], _∷_}
 use lib.Dec.{ltb, eqb}
 use lib.ListN.{length, drop, set, getD}
 use Rattle.frame.specs.Pick.{pick}
-use Rattle.reception.specs.Hearing.{heard, heardByte, keep, more, isHunting}
+use Rattle.reception.specs.Hearing.{heard, heardByte, keep, more}
 use Rattle.reception.specs.declared.hearing.Heard.{Heard}
 use Rattle.reception.specs.declared.hearing.Hearing.{Hearing}
 use Rattle.reception.specs.declared.hearing.Hearing.the-variants.{Hunting, Head, Body}
@@ -54,7 +54,7 @@ far r body = record { heard = heard (r .hearing) (r .event); body = body; taken 
 pub record Reached (before : Hearing) (bytes body : List ℕ) (r : Reach) (body′ : List ℕ) : Type 0 where
   pub all : far r body′ ≡ hearFrom (start before body) bytes
 
--- The code goes on in stages: while hunting, at Length, in the body. Each is told as far as it reached.
+-- The code goes on by turns, each as far as it reaches.
 abbrev pub gone : Heard → ℕ → Reach
 gone h n = record { hearing = h .hearing; event = h .event; taken = n }
 
@@ -62,46 +62,27 @@ gone h n = record { hearing = h .hearing; event = h .event; taken = n }
 abbrev pub onFrom : Far → List ℕ → Far
 onFrom f bytes = pick (newsByte (f .heard .event)) f (hearFrom f (drop (f .taken) bytes))
 
-abbrev pub isBody : Hearing → Bool
-isBody Hunting = false
-isBody (Head clock) = false
-isBody (Body p) = true
+-- there is a byte to be heard, and no news so far
+pub record Quiet (bytes : List ℕ) (r : Reach) : Type 0 where
+  pub there : r .taken < length bytes
+  pub quiet : newsByte (r .event) ≡ false
 
--- no byte is left to be heard
-abbrev pub Over : List ℕ → Reach → Type 0
-Over bytes r = newsByte (r .event) ≡ false → r .taken ≡ length bytes
-
--- inside a frame there is no news
-pub record Calm (bytes : List ℕ) (r : Reach) : Type 0 where
-  pub within : r .taken ≤ length bytes
-  pub quiet : isHunting (r .hearing) ≡ false → newsByte (r .event) ≡ false
-
-pub record Hunted (before : Hearing) (bytes : List ℕ) (r : Reach) : Type 0 where
-  pub calm : Calm bytes r
-  pub over : isHunting (r .hearing) ≡ true → Over bytes r
-  pub same : (body : List ℕ) → hearFrom (start before body) bytes ≡ onFrom (far r body) bytes
-
-pub record Headed (bytes : List ℕ) (r q : Reach) : Type 0 where
-  pub calm : Calm bytes q
-  pub over : isBody (q .hearing) ≡ false → Over bytes q
-  pub same : (body : List ℕ) → onFrom (far r body) bytes ≡ onFrom (far q body) bytes
-
-pub record Bodied (bytes : List ℕ) (r : Reach) (body : List ℕ) (q : Reach) (body′ : List ℕ) : Type 0 where
-  pub over : Over bytes q
+-- a turn: what is heard from r on is what is heard from q on
+pub record Onward (bytes : List ℕ) (r : Reach) (body : List ℕ) (q : Reach) (body′ : List ℕ) : Type 0 where
   pub same : onFrom (far r body) bytes ≡ onFrom (far q body′) bytes
 
 -- a byte that is not skipped while hunting
 abbrev pub isSign : ℕ → Bool
 isSign b = pick (eqb b 1) true (pick (eqb b 6) true (pick (eqb b 21) true (eqb b 24)))
 
--- n bytes skipped
-abbrev pub skipped : ℕ → List ℕ → Far
-skipped n body = record { heard = heard Hunting (pick (eqb n 0) Inside Skipped); body = body; taken = n }
+-- hunting at n, with noise from i on behind it
+abbrev pub skipped : Event → ℕ → ℕ → List ℕ → Far
+skipped e i n body = record { heard = heard Hunting (pick (eqb n i) e Skipped); body = body; taken = n }
 
-pub record Noise (bytes : List ℕ) (n : ℕ) : Type 0 where
+pub record Noise (bytes : List ℕ) (i n : ℕ) : Type 0 where
+  pub from : i ≤ n
   pub within : n ≤ length bytes
-  pub stops : n < length bytes → isSign (getD bytes n 0) ≡ true
-  pub same : (body : List ℕ) → hearFrom (start Hunting body) bytes ≡ hearFrom (skipped n body) (drop n bytes)
+  pub same : (e : Event) (body : List ℕ) → hearFrom (skipped e i i body) (drop i bytes) ≡ hearFrom (skipped e i n body) (drop n bytes)
 
 -- Body bytes at once: each kept at its place, each counted and folded.
 unfoldable pub kept : List ℕ → ℕ → List ℕ → List ℕ

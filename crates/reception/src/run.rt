@@ -1,5 +1,5 @@
-// A run of bytes, heard up to the first byte that has news (section 7). A frame's end has news, so a run has at most one
-// frame: noise, then 01 and Length, then the body in one walk, then the checksum.
+// A run of bytes, heard up to the first byte that has news (section 7): a loop over the bytes that breaks there. A turn of it
+// takes more than one byte where it can: noise and the byte that ends it, or a body in one walk and its checksum.
 use crate::hearing::Event;
 use crate::hearing::Heard;
 use crate::hearing::Hearing;
@@ -8,13 +8,12 @@ use crate::hearing::followed;
 use crate::hearing::hunted;
 use crate::hearing::measured;
 ghost use mathlib.Core.Path.{_≡_};
-ghost use mathlib.Core.Bool.{Bool, true, false};
-ghost use Prim.Native.Nat.{_+_, _-_, _≤_, _<_, min};
+ghost use mathlib.Core.List.{List};
+ghost use Prim.Native.Nat.{ℕ, _+_, _-_, _≤_, _<_, min};
 ghost use lib.ListN.{length, getD};
 ghost use Rattle.frame.specs.Bytes.{xorAll};
 ghost use Rattle.reception.specs.Run as spec;
-ghost use Rattle.reception.specs.Run.{Reached, Noise, Calm, Hunted, Headed, Bodied};
-ghost use Rattle.reception.specs.Hearing.{isHunting};
+ghost use Rattle.reception.specs.Run.{Reached, Noise, Quiet, Onward};
 ghost use Rattle.reception.specs.declared.hearing.Hearing.the-variants as hearing;
 
 // How far a run of bytes was heard: the hearing after it, the last event, and how many bytes were taken.
@@ -55,11 +54,12 @@ fn is_sign(b: u8) -> bool
     false
 }
 
-// How many bytes are skipped, from the first on.
-fn noise(bytes: &[u8]) -> usize
-    ensures { λ r. ⌜ Noise (now (bytes .entry)) r ⌝ }
+// Where the noise ends that begins at `from`.
+fn noise(bytes: &[u8], from: usize) -> usize
+    requires { ⌜ from ≤ length (now bytes) ⌝ }
+    ensures { λ r. ⌜ Noise (now (bytes .entry)) from r ⌝ }
 {
-    let mut i = 0;
+    let mut i = from;
     while i < bytes.len() {
         let b = bytes[i];
         if is_sign(b) {
@@ -100,7 +100,7 @@ fn fit(n: usize, at: u8) -> usize
 
 // Body bytes at once: each is kept at its place and folded into the sum.
 fn walk(sum: u8, s: &[u8], at: u8, body: &mut [u8; 254]) -> u8
-    ensures { λ r. ⌜ (r ≡ xorAll sum (now (s .entry))) × (length (now (body .entry)) ≡ 254 → now (body .exit) ≡ spec.kept (now (body .entry)) at (now (s .entry))) ⌝ }
+    ensures { λ r. ⌜ (r ≡ xorAll sum (now (s .entry))) × (length (now (body .entry)) ≡ 254 → now (body .exit) ≡ spec.kept (now (body .entry)) at (now (s .entry))) × (length (now (body .exit)) ≡ length (now (body .entry))) ⌝ }
 {
     let n = fit(s.len(), at);
     let first = at as usize;
@@ -118,7 +118,7 @@ fn walk(sum: u8, s: &[u8], at: u8, body: &mut [u8; 254]) -> u8
 // A half-received frame with these body bytes more.
 fn walked(p: Partial, s: &[u8], body: &mut [u8; 254]) -> Partial
     requires { ⌜ length (now s) ≤ p .size - p .at ⌝ }
-    ensures { λ r. ⌜ (r ≡ spec.walkedBy p (now (s .entry))) × (length (now (body .entry)) ≡ 254 → now (body .exit) ≡ spec.kept (now (body .entry)) (p .at) (now (s .entry))) ⌝ }
+    ensures { λ r. ⌜ (r ≡ spec.walkedBy p (now (s .entry))) × (length (now (body .entry)) ≡ 254 → now (body .exit) ≡ spec.kept (now (body .entry)) (p .at) (now (s .entry))) × (length (now (body .exit)) ≡ length (now (body .entry))) ⌝ }
 {
     let kind = picked(p.at, 0, s, p.kind);
     let command = picked(p.at, 1, s, p.command);
@@ -150,8 +150,8 @@ fn left(p: Partial, there: usize) -> usize
 
 // Inside a body: what there is of it, and the checksum where it is there too.
 fn body_on(r: Reach, p: Partial, bytes: &[u8], body: &mut [u8; 254]) -> Reach
-    requires { ⌜ Calm (now bytes) r × (r .hearing ≡ hearing.Body p) ⌝ }
-    ensures { λ q. ⌜ (length (now (body .entry)) ≡ 254 → Bodied (now (bytes .entry)) r (now (body .entry)) q (now (body .exit))) ⌝ }
+    requires { ⌜ Quiet (now bytes) r × (r .hearing ≡ hearing.Body p) ⌝ }
+    ensures { λ q. ⌜ (length (now (body .entry)) ≡ 254 → Onward (now (bytes .entry)) r (now (body .entry)) q (now (body .exit))) × (r .taken < q .taken) × (q .taken ≤ length (now (bytes .entry))) × (length (now (body .exit)) ≡ length (now (body .entry))) ⌝ }
 {
     let i = r.taken;
     let n = left(p, bytes.len() - i);
@@ -161,9 +161,6 @@ fn body_on(r: Reach, p: Partial, bytes: &[u8], body: &mut [u8; 254]) -> Reach
         let heard = followed(next, bytes[end]);
         return gone(heard, end + 1);
     }
-    if n == 0 {
-        return r;
-    }
     Reach {
         hearing: Hearing::Body(next),
         event: Event::Kept { at: next.at - 1 },
@@ -171,58 +168,25 @@ fn body_on(r: Reach, p: Partial, bytes: &[u8], body: &mut [u8; 254]) -> Reach
     }
 }
 
-fn on_body(r: Reach, bytes: &[u8], body: &mut [u8; 254]) -> Reach
-    requires { ⌜ Calm (now bytes) r × (spec.isBody (r .hearing) ≡ false → spec.Over (now bytes) r) ⌝ }
-    ensures { λ q. ⌜ (length (now (body .entry)) ≡ 254 → Bodied (now (bytes .entry)) r (now (body .entry)) q (now (body .exit))) ⌝ }
-{
-    let hearing = r.hearing;
-    match hearing {
-        Hearing::Hunting => r,
-        Hearing::Head { clock: _ } => r,
-        Hearing::Body(p) => body_on(r, p, bytes, body),
-    }
-}
-
 // Behind an 01: Length.
 fn head_on(r: Reach, clock: u16, bytes: &[u8]) -> Reach
-    requires { ⌜ Calm (now bytes) r × (r .hearing ≡ hearing.Head clock) ⌝ }
-    ensures { λ q. ⌜ Headed (now (bytes .entry)) r q ⌝ }
+    requires { ⌜ Quiet (now bytes) r × (r .hearing ≡ hearing.Head clock) ⌝ }
+    ensures { λ q. ⌜ (q .taken ≡ r .taken + 1) × ((body : List ℕ) → Onward (now (bytes .entry)) r body q body) ⌝ }
 {
     let i = r.taken;
-    if i < bytes.len() {
-        let heard = measured(clock, bytes[i]);
-        return gone(heard, i + 1);
-    }
-    r
-}
-
-fn on_head(r: Reach, bytes: &[u8]) -> Reach
-    requires { ⌜ Calm (now bytes) r × (isHunting (r .hearing) ≡ true → spec.Over (now bytes) r) ⌝ }
-    ensures { λ q. ⌜ Headed (now (bytes .entry)) r q ⌝ }
-{
-    let hearing = r.hearing;
-    match hearing {
-        Hearing::Hunting => r,
-        Hearing::Head { clock } => head_on(r, clock, bytes),
-        Hearing::Body(_) => r,
-    }
+    let heard = measured(clock, bytes[i]);
+    gone(heard, i + 1)
 }
 
 // While hunting: noise, and the byte that ends it.
-fn hunt_on(bytes: &[u8]) -> Reach
-    ensures { λ r. ⌜ Hunted hearing.Hunting (now (bytes .entry)) r ⌝ }
+fn hunt_on(r: Reach, bytes: &[u8]) -> Reach
+    requires { ⌜ Quiet (now bytes) r × (r .hearing ≡ hearing.Hunting) ⌝ }
+    ensures { λ q. ⌜ (r .taken < q .taken) × (q .taken ≤ length (now (bytes .entry))) × ((body : List ℕ) → Onward (now (bytes .entry)) r body q body) ⌝ }
 {
-    let i = noise(bytes);
+    let i = noise(bytes, r.taken);
     if i < bytes.len() {
         let heard = hunted(bytes[i]);
         return gone(heard, i + 1);
-    }
-    if i == 0 {
-        return Reach {
-            hearing: Hearing::Hunting,
-            event: Event::Inside,
-            taken: 0,
-        };
     }
     Reach {
         hearing: Hearing::Hunting,
@@ -231,21 +195,32 @@ fn hunt_on(bytes: &[u8]) -> Reach
     }
 }
 
-fn on_hunt(before: Hearing, bytes: &[u8]) -> Reach
-    ensures { λ r. ⌜ Hunted before (now (bytes .entry)) r ⌝ }
+// One turn, by where the hearing stands.
+fn onward(r: Reach, bytes: &[u8], body: &mut [u8; 254]) -> Reach
+    requires { ⌜ Quiet (now bytes) r ⌝ }
+    ensures { λ q. ⌜ (length (now (body .entry)) ≡ 254 → Onward (now (bytes .entry)) r (now (body .entry)) q (now (body .exit))) × (r .taken < q .taken) × (q .taken ≤ length (now (bytes .entry))) × (length (now (body .exit)) ≡ length (now (body .entry))) ⌝ }
 {
-    match before {
-        Hearing::Hunting => hunt_on(bytes),
-        Hearing::Head { clock: _ } => Reach {
-            hearing: before,
-            event: Event::Inside,
-            taken: 0,
-        },
-        Hearing::Body(_) => Reach {
-            hearing: before,
-            event: Event::Inside,
-            taken: 0,
-        },
+    let hearing = r.hearing;
+    match hearing {
+        Hearing::Hunting => hunt_on(r, bytes),
+        Hearing::Head { clock } => head_on(r, clock, bytes),
+        Hearing::Body(p) => body_on(r, p, bytes, body),
+    }
+}
+
+// Whether a byte that was heard so has news: a single byte or an end.
+fn has_news(event: Event) -> bool
+    ensures { λ r. ⌜ r ≡ spec.newsByte event ⌝ }
+{
+    match event {
+        Event::Inside => false,
+        Event::Kept { at: _ } => false,
+        Event::Skipped => false,
+        Event::Alone(_) => true,
+        Event::Ended(_) => true,
+        Event::TickHunting => true,
+        Event::TickInside => true,
+        Event::Aborted => true,
     }
 }
 
@@ -253,7 +228,17 @@ fn on_hunt(before: Hearing, bytes: &[u8]) -> Reach
 pub fn hear_run(before: Hearing, bytes: &[u8], body: &mut [u8; 254]) -> Reach
     ensures { λ r. ⌜ (length (now (body .entry)) ≡ 254 → Reached before (now (bytes .entry)) (now (body .entry)) r (now (body .exit))) ⌝ }
 {
-    let first = on_hunt(before, bytes);
-    let second = on_head(first, bytes);
-    on_body(second, bytes, body)
+    let mut reach = Reach {
+        hearing: before,
+        event: Event::Inside,
+        taken: 0,
+    };
+    while reach.taken < bytes.len() {
+        reach = onward(reach, bytes, body);
+        let event = reach.event;
+        if has_news(event) {
+            break;
+        }
+    }
+    reach
 }

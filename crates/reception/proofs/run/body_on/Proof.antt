@@ -1,12 +1,14 @@
 -- `reception::run::body_on` meets its contract.
 -- Assumes nothing.
 use mathlib.Core.Path.{_≡_, ap, _∙_}
-use Prim.Native.Nat.{ℕ, _+_, _-_}
+use Prim.Native.Nat.{ℕ, _+_, _-_, _≤_, _<_}
 use native.Mathlib.Omega.{arith}
 use denote.Ref.{now}
-use lib.ListN.{take, drop}
-use Rattle.reception.specs.Run.{walkedBy, kept}
-use Rattle.reception.proofs.Stages.{part-length, walked-at, bodied-whole, bodied-part, bodied-still}
+use lib.ListN.{length, take, drop}
+use Rattle.reception.specs.declared.hearing.Heard.{Heard}
+use Rattle.reception.specs.declared.run.Reach.{Reach}
+use Rattle.reception.specs.Run.{gone, walkedBy, kept}
+use Rattle.reception.proofs.Turns.{part-length, walked-at, bodied-whole, bodied-part}
 use borrow.Author.Needs.{needs}
 use Rattle.reception.proofs.run.body_on.Statement.{statement}
 use Rattle.reception.proofs.run.body_on.Tie as tie
@@ -45,7 +47,7 @@ gone-requires : tie.Need-gone-requires
 gone-requires c κs = search needs
 
 returns : tie.Need-returns
-returns c z =
+returns c =
     let st = c .before .before .before .before .before .before .before .before .before in
     let a = st .args in
     let bs = now (a .bytes) in
@@ -55,12 +57,20 @@ returns c z =
     let n = l .result in
     let e : i + n - i ≡ n = omega arith in
     let x : w .result ≡ walkedBy (a .p) (take n (drop i bs)) = w .ensures .0 ∙ ap (λ (m : ℕ). walkedBy (a .p) (take m (drop i bs))) e in
-    let y = w .ensures .1 z ∙ ap (λ (m : ℕ). kept (now (a .body)) (a .p .at) (take m (drop i bs))) e in
-    bodied-whole bs (a .r) (a .p) (st .pre .0) (st .pre .1) n (omega (arith, l .ensures)) (omega (arith, l .ensures, st .pre .0 .within)) (now (a .body)) x y
-    (omega (arith, l .ensures, c .before .before .before .if1 .taken)) (c .before .before .before .if1 .taken) (simp (c .gone .ensures, c .before .followed .ensures))
+    let small : n ≤ a .p .size - a .p .at = omega (arith, l .ensures) in
+    let fits : i + n ≤ length bs = omega (arith, l .ensures, st .pre .0 .there) in
+    let g = c .gone .ensures ∙ ap (λ (h : Heard). gone h (i + n + 1)) (c .before .followed .ensures) in
+    let t = ap (λ (q : Reach). q .taken) g in (
+      λ z.
+          bodied-whole bs (a .r) (a .p) (st .pre .0) (st .pre .1) n small fits (now (a .body)) x (w .ensures .1 z ∙ ap (λ (m : ℕ). kept (now (a .body)) (a .p .at) (take m (drop i bs))) e)
+          (omega (arith, l .ensures, c .before .before .before .if1 .taken)) (c .before .before .before .if1 .taken) g,
+      omega (arith, t),
+      omega (arith, t, c .before .before .before .if1 .taken),
+      w .ensures .2,
+    )
 
-returns-2 : tie.Need-returns-2
-returns-2 c z =
+sub-t21 : tie.Need-sub-t21
+sub-t21 c =
     let st = c .before .before .before .before .before .before .before in
     let a = st .args in
     let bs = now (a .bytes) in
@@ -70,36 +80,25 @@ returns-2 c z =
     let n = l .result in
     let e : i + n - i ≡ n = omega arith in
     let x : w .result ≡ walkedBy (a .p) (take n (drop i bs)) = w .ensures .0 ∙ ap (λ (m : ℕ). walkedBy (a .p) (take m (drop i bs))) e in
-    let y = w .ensures .1 z ∙ ap (λ (m : ℕ). kept (now (a .body)) (a .p .at) (take m (drop i bs))) e in
-    bodied-still bs (a .r) (now (a .body)) (a .p .at) n (c .if2 .taken) (λ q. omega (arith, st .pre .0 .within, c .before .if1 .left, c .if2 .taken)) y
+    let small : n ≤ a .p .size - a .p .at = omega (arith, l .ensures) in
+    let fits : i + n ≤ length bs = omega (arith, l .ensures, st .pre .0 .there) in
+    omega (arith, l .ensures, walked-at (a .p) (take n (drop i bs)) x, st .pre .0 .there, c .before .if1 .left, part-length bs (a .r) (a .p) (st .pre .0) (st .pre .1) n small fits)
 
-sub-t21 : tie.Need-sub-t21
-sub-t21 c =
-    let st = c .before .before .before .before .before .before .before .before in
+returns-2 : tie.Need-returns-2
+returns-2 c =
+    let st = c .before .before .before .before .before .before .before in
     let a = st .args in
     let bs = now (a .bytes) in
     let i = a .r .taken in
-    let w = c .before .before .before .walked in
-    let l = c .before .before .before .before .before .before .left in
+    let w = c .before .before .walked in
+    let l = c .before .before .before .before .before .left in
     let n = l .result in
     let e : i + n - i ≡ n = omega arith in
     let x : w .result ≡ walkedBy (a .p) (take n (drop i bs)) = w .ensures .0 ∙ ap (λ (m : ℕ). walkedBy (a .p) (take m (drop i bs))) e in
-    omega (arith, walked-at (a .p) (take n (drop i bs)) x, c .before .if2 .left, part-length bs (a .r) (a .p) (st .pre .0) (st .pre .1) n (omega (arith, l .ensures)) (omega (arith, l .ensures, st .pre .0 .within)))
-
-returns-3 : tie.Need-returns-3
-returns-3 c z =
-    let st = c .before .before .before .before .before .before .before .before in
-    let a = st .args in
-    let bs = now (a .bytes) in
-    let i = a .r .taken in
-    let w = c .before .before .before .walked in
-    let l = c .before .before .before .before .before .before .left in
-    let n = l .result in
-    let e : i + n - i ≡ n = omega arith in
-    let x : w .result ≡ walkedBy (a .p) (take n (drop i bs)) = w .ensures .0 ∙ ap (λ (m : ℕ). walkedBy (a .p) (take m (drop i bs))) e in
-    let y = w .ensures .1 z ∙ ap (λ (m : ℕ). kept (now (a .body)) (a .p .at) (take m (drop i bs))) e in
-    bodied-part bs (a .r) (a .p) (st .pre .0) (st .pre .1) n (omega (arith, l .ensures)) (omega (arith, l .ensures, st .pre .0 .within)) (now (a .body)) x y
-    (omega (arith, c .before .if2 .left)) (c .before .before .if1 .left)
+    let small : n ≤ a .p .size - a .p .at = omega (arith, l .ensures) in
+    let fits : i + n ≤ length bs = omega (arith, l .ensures, st .pre .0 .there) in
+    let some : 0 < n = omega (arith, st .pre .0 .there, c .before .if1 .left) in
+    (λ z. bodied-part bs (a .r) (a .p) (st .pre .0) (st .pre .1) n small fits (now (a .body)) x (w .ensures .1 z ∙ ap (λ (m : ℕ). kept (now (a .body)) (a .p .at) (take m (drop i bs))) e) some, omega arith, fits, w .ensures .2)
 
 pub body-on-spec : {M : Type 1} → statement M
 body-on-spec =
@@ -117,6 +116,5 @@ body-on-spec =
     add-gone
     gone-requires
     returns
-    returns-2
     sub-t21
-    returns-3)
+    returns-2)

@@ -1,7 +1,12 @@
 -- `reception::run::head_on` meets its contract.
 -- Assumes nothing.
+use mathlib.Core.Path.{ap, _∙_}
+use Prim.Native.Nat.{_+_}
 use denote.Ref.{now}
-use Rattle.reception.proofs.Stages.{headed-one}
+use Rattle.reception.specs.declared.hearing.Heard.{Heard}
+use Rattle.reception.specs.declared.run.Reach.{Reach}
+use Rattle.reception.specs.Run.{gone}
+use Rattle.reception.proofs.Turns.{headed-one}
 use borrow.Author.Needs.{needs}
 use Rattle.reception.proofs.run.head_on.Statement.{statement}
 use Rattle.reception.proofs.run.head_on.Tie as tie
@@ -20,20 +25,12 @@ gone-requires c κs = search needs
 
 returns : tie.Need-returns
 returns c =
-    let st = c .before .before .before .before .before in
+    let st = c .before .before .before .before in
     let a = st .args in
-    headed-one (now (a .bytes)) (a .r) (a .clock) (st .pre .0) (st .pre .1) (c .before .before .before .if1 .taken) (simp (c .gone .ensures, c .before .measured .ensures))
-
-returns-2 : tie.Need-returns-2
-returns-2 c = search needs
+    let x = c .gone .ensures ∙ ap (λ (h : Heard). gone h (a .r .taken + 1)) (c .before .measured .ensures) in
+    (ap (λ (q : Reach). q .taken) x, headed-one (now (a .bytes)) (a .r) (a .clock) (st .pre .0) (st .pre .1) x)
 
 pub head-on-spec : {M : Type 1} → statement M
 head-on-spec =
     tie.close
-    (tie.spec
-    shared-slice-read-measured
-    measured-requires
-    add-gone
-    gone-requires
-    returns
-    returns-2)
+    (tie.spec shared-slice-read-measured measured-requires add-gone gone-requires returns)

@@ -1,9 +1,13 @@
 -- `reception::run::hunt_on` meets its contract.
 -- Assumes nothing.
-use borrow.Author.Tests.{eq-eqb, ne-eqb}
+use mathlib.Core.Path.{ap, _∙_}
+use Prim.Native.Nat.{_+_}
+use native.Mathlib.Omega.{arith}
 use denote.Ref.{now}
-use Rattle.reception.specs.declared.hearing.Event.the-variants.{Inside, Skipped}
-use Rattle.reception.proofs.Stages.{hunts-one, hunts-all}
+use Rattle.reception.specs.declared.hearing.Heard.{Heard}
+use Rattle.reception.specs.declared.run.Reach.{Reach}
+use Rattle.reception.specs.Run.{gone}
+use Rattle.reception.proofs.Turns.{hunts-one, hunts-all}
 use borrow.Author.Needs.{needs}
 use Rattle.reception.proofs.run.hunt_on.Statement.{statement}
 use Rattle.reception.proofs.run.hunt_on.Tie as tie
@@ -25,21 +29,19 @@ gone-requires c κs = search needs
 
 returns : tie.Need-returns
 returns c =
-    let a = c .before .before .before .before .before .before .args in
+    let st = c .before .before .before .before .before .before in
+    let a = st .args in
     let n = c .before .before .before .before .noise in
-    hunts-one (now (a .bytes)) (n .result) (n .ensures) (c .before .before .before .if1 .taken) (simp (c .gone .ensures, c .before .hunted .ensures))
+    let x = c .gone .ensures ∙ ap (λ (h : Heard). gone h (n .result + 1)) (c .before .hunted .ensures) in
+    let t = ap (λ (q : Reach). q .taken) x in
+    (omega (arith, t, n .ensures .from), omega (arith, t, c .before .before .before .if1 .taken), λ body. hunts-one (now (a .bytes)) (a .r) (st .pre .0) (st .pre .1) (n .result) (n .ensures) body (c .before .before .before .if1 .taken) x)
 
 returns-2 : tie.Need-returns-2
 returns-2 c =
-    let a = c .before .before .before .before .args in
-    let n = c .before .before .noise in
-    rw (← c .if2 .taken) (hunts-all (now (a .bytes)) (n .result) (n .ensures) (c .before .if1 .left) Inside (simp (eq-eqb _ _ (c .if2 .taken))))
-
-returns-3 : tie.Need-returns-3
-returns-3 c =
-    let a = c .before .before .before .before .args in
-    let n = c .before .before .noise in
-    hunts-all (now (a .bytes)) (n .result) (n .ensures) (c .before .if1 .left) Skipped (simp (ne-eqb _ _ (c .if2 .left)))
+    let st = c .before .before .before in
+    let a = st .args in
+    let n = c .before .noise in
+    (omega (arith, st .pre .0 .there, c .if1 .left), n .ensures .within, λ body. hunts-all (now (a .bytes)) (a .r) (st .pre .0) (st .pre .1) (n .result) (n .ensures) body (c .if1 .left))
 
 pub hunt-on-spec : {M : Type 1} → statement M
 hunt-on-spec =
@@ -51,5 +53,4 @@ hunt-on-spec =
     add-gone
     gone-requires
     returns
-    returns-2
-    returns-3)
+    returns-2)

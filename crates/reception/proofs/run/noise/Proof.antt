@@ -3,26 +3,27 @@
 use mathlib.Core.Path.{_≡_, refl, sym, _∙_}
 use mathlib.Core.List.{List}
 use Prim.Native.Nat.{ℕ, _-_, _≤_}
-use native.Mathlib.Nat.{not-le-of-lt}
 use native.Mathlib.Omega.{arith}
 use borrow.Author.Needs.{needs}
 use denote.Ref.{now}
 use lib.ListN.{length, drop}
-use Rattle.reception.specs.declared.hearing.Hearing.the-variants.{Hunting}
-use Rattle.reception.specs.Run.{hearFrom, start, skipped}
-use Rattle.reception.proofs.Stages.{noise-more}
+use Rattle.reception.specs.declared.hearing.Event.{Event}
+use Rattle.reception.specs.Run.{hearFrom, skipped}
+use Rattle.reception.proofs.Turns.{noise-more}
 use Rattle.reception.proofs.run.noise.Statement.{statement}
 use Rattle.reception.proofs.run.noise.Tie as tie
 
 abbrev Inv-loop : tie.InvT-loop
-Inv-loop bytes i₀ i =
-    (i ≤ length bytes) × ((body : List ℕ) → hearFrom (start Hunting body) bytes ≡ hearFrom (skipped i body) (drop i bytes))
+Inv-loop bytes from i₀ i =
+    (from ≤ i)
+    × (i ≤ length bytes)
+    × ((e : Event) (body : List ℕ) → hearFrom (skipped e from from body) (drop from bytes) ≡ hearFrom (skipped e from i body) (drop i bytes))
 
 abbrev μ-loop : tie.MeasureT-loop
-μ-loop bytes i₀ i = length bytes - i
+μ-loop bytes from i₀ i = length bytes - i
 
 loop-holds : tie.Need-loop-holds Inv-loop μ-loop
-loop-holds c = (omega arith, λ body. refl)
+loop-holds c = (omega arith, omega arith, λ e body. refl)
 
 shared-slice-read-b : tie.Need-shared-slice-read-b Inv-loop μ-loop
 shared-slice-read-b c = omega arith
@@ -33,7 +34,7 @@ is-sign-requires c κs = search needs
 returns : tie.Need-returns Inv-loop μ-loop
 returns c =
     let l = c .before .before .before .before .loop in
-    record { within = l .inv .0; stops = λ h. sym (c .before .is-sign .ensures) ∙ c .if1 .taken; same = l .inv .1 }
+    record { from = l .inv .0; within = l .inv .1; same = l .inv .2 }
 
 add-i : tie.Need-add-i Inv-loop μ-loop
 add-i c = omega arith
@@ -44,13 +45,13 @@ loop-less c = omega arith
 loop-again : tie.Need-loop-again Inv-loop μ-loop
 loop-again c =
     let l = c .before .before .before .before .loop in
-    let bs = now (c .before .before .before .before .before .before .args .bytes) in
-    (omega arith, λ body. l .inv .1 body ∙ noise-more bs (l .i) body (c .before .before .before .loop-test .taken) (sym (c .before .is-sign .ensures) ∙ c .if1 .left))
+    let a = c .before .before .before .before .before .before .args in
+    (omega arith, omega arith, λ e body. l .inv .2 e body ∙ noise-more (now (a .bytes)) e (a .from) (l .i) body (l .inv .0) (c .before .before .before .loop-test .taken) (sym (c .before .is-sign .ensures) ∙ c .if1 .left))
 
 returns-2 : tie.Need-returns-2 Inv-loop μ-loop
 returns-2 c =
     let l = c .before .loop in
-    record { within = l .inv .0; stops = λ h. absurd (not-le-of-lt h (c .loop-test .left)); same = l .inv .1 }
+    record { from = l .inv .0; within = l .inv .1; same = l .inv .2 }
 
 pub noise-spec : {M : Type 1} → statement M
 noise-spec =

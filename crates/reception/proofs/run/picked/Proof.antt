@@ -3,7 +3,7 @@
 use mathlib.Core.Path.{sym}
 use borrow.Author.Tests.{lt-ltb, le-ltb}
 use denote.Ref.{now}
-use Rattle.reception.proofs.Stages.{getD-in, getD-out}
+use Rattle.reception.proofs.Turns.{getD-in, getD-out}
 use borrow.Author.Needs.{needs}
 use Rattle.reception.proofs.run.picked.Statement.{statement}
 use Rattle.reception.proofs.run.picked.Tie as tie

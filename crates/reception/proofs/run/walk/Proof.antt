@@ -12,7 +12,7 @@ use lib.Seq.{take-all}
 use Rattle.frame.specs.Bytes.{xorAll}
 use Rattle.frame.proofs.Folds.{fold-more}
 use Rattle.reception.specs.Run.{kept}
-use Rattle.reception.proofs.Stages.{kept-more, kept-rest}
+use Rattle.reception.proofs.Turns.{kept-more, kept-rest}
 use Rattle.reception.proofs.run.walk.Statement.{statement}
 use Rattle.reception.proofs.run.walk.Tie as tie
 
@@ -88,6 +88,7 @@ returns c =
           sym
           (l .inv .2
           ∙ kept-rest (l .body) (a .at) (now (a .s)) (l .j) (e ∙ f .ensures ∙ ap (λ (k : ℕ). min (length (now (a .s))) (k - a .at)) (sym (l .inv .3 ∙ z)))),
+      l .inv .3,
     )
 
 pub walk-spec : {M : Type 1} → statement M

@@ -2,7 +2,7 @@
 -- Assumes nothing.
 use mathlib.Core.Path.{sym}
 use denote.Ref.{now}
-use Rattle.reception.proofs.Stages.{walked-is}
+use Rattle.reception.proofs.Turns.{walked-is}
 use borrow.Author.Needs.{needs}
 use Rattle.reception.proofs.run.walked.Statement.{statement}
 use Rattle.reception.proofs.run.walked.Tie as tie
@@ -30,7 +30,7 @@ returns c =
     let st = c .before .before .before .before .before .before in
     let a = st .args in
     let w = c .walk .ensures in
-    (simp (c .before .before .before .before .picked .ensures, c .before .before .before .picked2 .ensures, w .0) (sym (walked-is (a .p) (now (a .s)))), w .1)
+    (simp (c .before .before .before .before .picked .ensures, c .before .before .before .picked2 .ensures, w .0) (sym (walked-is (a .p) (now (a .s)))), w .1, w .2)
 
 pub walked-spec : {M : Type 1} → statement M
 walked-spec =

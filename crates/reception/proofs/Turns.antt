@@ -1,4 +1,4 @@
--- The stages of a run of bytes, each heard at once, are the bytes heard one by one.
+-- The turns of a run of bytes, each heard at once, are the bytes heard one by one.
 --     hear-end, on-over, on-one   hearing at what is left of the bytes
 --     noise-more                  a skipped byte more
 --     walks                       body bytes at once
@@ -10,7 +10,7 @@ use Prim.Native.Nat.{ℕ, zero, suc, _+_, _-_, _≤_, _<_, min}
 use native.Mathlib.Nat.{add-suc, add-zero, suc-add, not-suc-le-zero, le-of-suc-le-suc}
 use native.Mathlib.Numerals.{add-one}
 use native.Mathlib.Omega.{arith}
-use borrow.Author.Tests.{lt-ltb, le-ltb, ne-eqb, ltb-true, ltb-false}
+use borrow.Author.Tests.{lt-ltb, le-ltb, ne-eqb, ltb-true, ltb-false, eq-eqb}
 use lib.Bits.{bitXor}
 use lib.Dec.{ltb, eqb}
 use lib.ListN.{length, take, drop, set, getD, drop-of-length-le, length-set, take-append-drop, length-drop}
@@ -26,8 +26,8 @@ use Rattle.reception.specs.declared.hearing.Hearing.{Hearing}
 use Rattle.reception.specs.declared.hearing.Hearing.the-variants.{Hunting, Head, Body}
 use Rattle.reception.specs.declared.hearing.Partial.{Partial}
 use Rattle.reception.specs.declared.run.Reach.{Reach}
-use Rattle.reception.specs.Hearing.{heard, hunted, measured, begun, more, ended, followed, heardByte, keep, isHunting}
-use Rattle.reception.specs.Run.{Far, newsByte, behind, hearFrom, start, far, gone, onFrom, isBody, Over, Calm, isSign, skipped, Noise, kept, walkedBy, picked, Hunted, Headed, Bodied}
+use Rattle.reception.specs.Hearing.{heard, hunted, measured, begun, more, ended, followed, heardByte, keep}
+use Rattle.reception.specs.Run.{Far, newsByte, behind, hearFrom, start, far, gone, onFrom, Quiet, Onward, isSign, skipped, Noise, kept, walkedBy, picked}
 
 pub no : true ≡ false → ⊥
 no e = let z : _≡_ {A = ℕ} 0 1 = cc in omega arith
@@ -73,20 +73,6 @@ module _ where
   abbrev sign : Bool → Bool → Bool → Bool → Bool
   sign t1 t6 t21 t24 = pick t1 true (pick t6 true (pick t21 true t24))
 
-  apart-over : (t1 t6 t21 t24 : Bool) → sign t1 t6 t21 t24 ≡ true → isHunting (apart t1 t6 t21 t24 .hearing) ≡ true → newsByte (apart t1 t6 t21 t24 .event) ≡ true
-  apart-over true t6 t21 t24 n h = absurd (no (sym h))
-  apart-over false true t21 t24 n h = refl
-  apart-over false false true t24 n h = refl
-  apart-over false false false true n h = refl
-  apart-over false false false false n h = absurd (no (sym n))
-
-  apart-calm : (t1 t6 t21 t24 : Bool) → isHunting (apart t1 t6 t21 t24 .hearing) ≡ false → newsByte (apart t1 t6 t21 t24 .event) ≡ false
-  apart-calm true t6 t21 t24 h = refl
-  apart-calm false true t21 t24 h = absurd (no h)
-  apart-calm false false true t24 h = absurd (no h)
-  apart-calm false false false true h = absurd (no h)
-  apart-calm false false false false h = absurd (no h)
-
   apart-keeps : (t1 t6 t21 t24 : Bool) (b : ℕ) (body : List ℕ) → keep (apart t1 t6 t21 t24 .event) b body ≡ body
   apart-keeps true t6 t21 t24 b body = refl
   apart-keeps false true t21 t24 b body = refl
@@ -101,116 +87,76 @@ module _ where
   apart-noise false false false true n = absurd (no n)
   apart-noise false false false false n = refl
 
-pub hunted-over : (b : ℕ) → isSign b ≡ true → isHunting (hunted b .hearing) ≡ true → newsByte (hunted b .event) ≡ true
-hunted-over b = apart-over (eqb b 1) (eqb b 6) (eqb b 21) (eqb b 24)
-
-pub hunted-calm : (b : ℕ) → isHunting (hunted b .hearing) ≡ false → newsByte (hunted b .event) ≡ false
-hunted-calm b = apart-calm (eqb b 1) (eqb b 6) (eqb b 21) (eqb b 24)
-
 pub hunted-keeps : (b : ℕ) (body : List ℕ) → keep (hunted b .event) b body ≡ body
 hunted-keeps b body = apart-keeps (eqb b 1) (eqb b 6) (eqb b 21) (eqb b 24) b body
 
+skip-quiet : (t : Bool) (e : Event) → newsByte e ≡ false → newsByte (pick t e Skipped) ≡ false
+skip-quiet true e h = h
+skip-quiet false e h = refl
+
 -- one skipped byte more
-pub noise-more : (bytes : List ℕ) (n : ℕ) (body : List ℕ) → n < length bytes → isSign (getD bytes n 0) ≡ false
-    → hearFrom (skipped n body) (drop n bytes) ≡ hearFrom (skipped (n + 1) body) (drop (n + 1) bytes)
-noise-more bytes n body h q =
-    let e : hunted (getD bytes n 0) ≡ heard Hunting Skipped = apart-noise (eqb (getD bytes n 0) 1) (eqb (getD bytes n 0) 6) (eqb (getD bytes n 0) 21) (eqb (getD bytes n 0) 24) q in
-    hear-more (skipped n body) n bytes h (ap (λ (x : Heard). newsByte (x .event)) e)
-    ∙ ap (λ (x : Heard). hearFrom (behind x body (getD bytes n 0) n) (drop (n + 1) bytes)) e
-    ∙ simp (ne-eqb (n + 1) 0 (λ z. omega (arith, z)))
+pub noise-more : (bytes : List ℕ) (e : Event) (i n : ℕ) (body : List ℕ) → i ≤ n → n < length bytes → isSign (getD bytes n 0) ≡ false
+    → hearFrom (skipped e i n body) (drop n bytes) ≡ hearFrom (skipped e i (n + 1) body) (drop (n + 1) bytes)
+noise-more bytes e i n body le h q =
+    let x : hunted (getD bytes n 0) ≡ heard Hunting Skipped = apart-noise (eqb (getD bytes n 0) 1) (eqb (getD bytes n 0) 6) (eqb (getD bytes n 0) 21) (eqb (getD bytes n 0) 24) q in
+    hear-more (skipped e i n body) n bytes h (ap (λ (y : Heard). newsByte (y .event)) x)
+    ∙ ap (λ (y : Heard). hearFrom (behind y body (getD bytes n 0) n) (drop (n + 1) bytes)) x
+    ∙ simp (ne-eqb (n + 1) i (λ z. omega (arith, z)))
 
-skip-quiet : (t : Bool) → newsByte (pick t Inside Skipped) ≡ false
-skip-quiet true = refl
-skip-quiet false = refl
-
-module _ (bytes : List ℕ) (n : ℕ) (z : Noise bytes n) where
+module _ (bytes : List ℕ) (r : Reach) (c : Quiet bytes r) (e : r .hearing ≡ Hunting) (n : ℕ) (z : Noise bytes (r .taken) n) (body : List ℕ) where
   abbrev b₁ : ℕ
   b₁ = getD bytes n 0
 
-  -- noise, and the byte that ends it
-  hunts : n < length bytes → Hunted Hunting bytes (gone (hunted b₁) (n + 1))
-  hunts h =
-      record {
-        calm = record { within = omega arith; quiet = hunted-calm b₁ };
-        over = λ x y. absurd (no (sym (hunted-over b₁ (z .stops h) x) ∙ y));
-        same = λ body.
-            z .same body
-            ∙ sym (on-quiet (skipped n body) bytes (skip-quiet (eqb n 0)))
-            ∙ on-one (skipped n body) bytes h (skip-quiet (eqb n 0))
-            ∙ ap (λ (l : List ℕ). onFrom (record { heard = hunted b₁; body = l; taken = n + 1 }) bytes) (hunted-keeps b₁ body);
-      }
+  to-noise : onFrom (far r body) bytes ≡ hearFrom (skipped (r .event) (r .taken) n body) (drop n bytes)
+  to-noise =
+      on-quiet (far r body) bytes (c .quiet)
+      ∙ ap (λ (h : Hearing). hearFrom (record { heard = heard h (r .event); body = body; taken = r .taken }) (drop (r .taken) bytes)) e
+      ∙ (simp (eq-eqb (r .taken) (r .taken) refl) at (z .same (r .event) body))
 
-  pub hunts-one : n < length bytes → {q : Reach} → q ≡ gone (hunted b₁) (n + 1) → Hunted Hunting bytes q
-  hunts-one h x = subst (λ (q : Reach). Hunted Hunting bytes q) (sym x) (hunts h)
+  still₁ : newsByte (pick (eqb n (r .taken)) (r .event) Skipped) ≡ false
+  still₁ = skip-quiet (eqb n (r .taken)) (r .event) (c .quiet)
+
+  -- noise, and the byte that ends it
+  pub hunts-one : n < length bytes → {q : Reach} → q ≡ gone (hunted b₁) (n + 1) → Onward bytes r body q body
+  hunts-one h x =
+      let s =
+      to-noise
+      ∙ sym (on-quiet (skipped (r .event) (r .taken) n body) bytes still₁)
+      ∙ on-one (skipped (r .event) (r .taken) n body) bytes h still₁
+      ∙ ap (λ (l : List ℕ). onFrom (record { heard = hunted b₁; body = l; taken = n + 1 }) bytes) (hunted-keeps b₁ body) in
+      record { same = s ∙ ap (λ (q : Reach). onFrom (far q body) bytes) (sym x) }
 
   -- noise alone
-  pub hunts-all : length bytes ≤ n → (e : Event) → e ≡ pick (eqb n 0) Inside Skipped → Hunted Hunting bytes (record { hearing = Hunting; event = e; taken = n })
-  hunts-all h e x =
-      let q : newsByte e ≡ false = ap newsByte x ∙ skip-quiet (eqb n 0) in
+  pub hunts-all : length bytes ≤ n → Onward bytes r body (record { hearing = Hunting; event = Skipped; taken = n }) body
+  hunts-all h =
       record {
-        calm = record { within = z .within; quiet = λ y. absurd (no y) };
-        over = λ y w. omega (arith, z .within);
-        same = λ body.
-            z .same body
-            ∙ ap (λ (v : Event). hearFrom (record { heard = heard Hunting v; body = body; taken = n }) (drop n bytes)) (sym x)
-            ∙ sym (on-quiet (record { heard = heard Hunting e; body = body; taken = n }) bytes q);
+        same =
+            to-noise
+            ∙ simp (ne-eqb n (r .taken) (λ w. omega (arith, w, c .there)))
+            (sym (on-quiet (record { heard = heard Hunting Skipped; body = body; taken = n }) bytes refl));
       }
-
--- inside a frame there is nothing to hunt
-pub hunts-none : (before : Hearing) (bytes : List ℕ) → isHunting before ≡ false → Hunted before bytes (record { hearing = before; event = Inside; taken = 0 })
-hunts-none before bytes h =
-    record {
-      calm = record { within = omega arith; quiet = λ x. refl };
-      over = λ x. absurd (no (sym x ∙ h));
-      same = λ body. refl;
-    }
 
 -- ---- at Length
 module _ where
   abbrev length-heard : Bool → ℕ → ℕ → Heard
   length-heard t clock b = pick t (heard Hunting (Ended BadLength)) (heard (Body (begun clock b)) Inside)
 
-  length-over : (t : Bool) (clock b : ℕ) → isBody (length-heard t clock b .hearing) ≡ false → newsByte (length-heard t clock b .event) ≡ true
-  length-over true clock b h = refl
-  length-over false clock b h = absurd (no h)
-
-  length-calm : (t : Bool) (clock b : ℕ) → isHunting (length-heard t clock b .hearing) ≡ false → newsByte (length-heard t clock b .event) ≡ false
-  length-calm true clock b h = absurd (no h)
-  length-calm false clock b h = refl
-
   length-keeps : (t : Bool) (clock b : ℕ) (body : List ℕ) → keep (length-heard t clock b .event) b body ≡ body
   length-keeps true clock b body = refl
   length-keeps false clock b body = refl
 
-pub measured-over : (clock b : ℕ) → isBody (measured clock b .hearing) ≡ false → newsByte (measured clock b .event) ≡ true
-measured-over clock b = length-over (ltb b 3) clock b
-
-pub measured-calm : (clock b : ℕ) → isHunting (measured clock b .hearing) ≡ false → newsByte (measured clock b .event) ≡ false
-measured-calm clock b = length-calm (ltb b 3) clock b
-
 pub measured-keeps : (clock b : ℕ) (body : List ℕ) → keep (measured clock b .event) b body ≡ body
 measured-keeps clock b body = length-keeps (ltb b 3) clock b body
 
-module _ (bytes : List ℕ) (r : Reach) (clock : ℕ) (c : Calm bytes r) (e : r .hearing ≡ Head clock) (h : r .taken < length bytes) where
-  abbrev b₂ : ℕ
-  b₂ = getD bytes (r .taken) 0
-
-  headed : Headed bytes r (gone (measured clock b₂) (r .taken + 1))
-  headed =
-      record {
-        calm = record { within = omega arith; quiet = measured-calm clock b₂ };
-        over = λ x y. absurd (no (sym (measured-over clock b₂ x) ∙ y));
-        same = λ body.
-            on-one (far r body) bytes h (c .quiet (ap isHunting e))
-            ∙ ap (λ (v : Hearing). onFrom (behind (heardByte b₂ v) body b₂ (r .taken)) bytes) e
-            ∙ ap (λ (l : List ℕ). onFrom (record { heard = measured clock b₂; body = l; taken = r .taken + 1 }) bytes) (measured-keeps clock b₂ body);
-      }
-
-  pub headed-one : {q : Reach} → q ≡ gone (measured clock b₂) (r .taken + 1) → Headed bytes r q
-  headed-one x = subst (λ (q : Reach). Headed bytes r q) (sym x) headed
-
-pub headed-none : {bytes : List ℕ} {r : Reach} → Calm bytes r → (isBody (r .hearing) ≡ false → Over bytes r) → Headed bytes r r
-headed-none c over = record { calm = c; over = over; same = λ body. refl }
+pub headed-one : (bytes : List ℕ) (r : Reach) (clock : ℕ) → Quiet bytes r → r .hearing ≡ Head clock
+    → {q : Reach} → q ≡ gone (measured clock (getD bytes (r .taken) 0)) (r .taken + 1) → (body : List ℕ) → Onward bytes r body q body
+headed-one bytes r clock c e x body =
+    let b = getD bytes (r .taken) 0 in
+    let s =
+    on-one (far r body) bytes (c .there) (c .quiet)
+    ∙ ap (λ (v : Hearing). onFrom (behind (heardByte b v) body b (r .taken)) bytes) e
+    ∙ ap (λ (l : List ℕ). onFrom (record { heard = measured clock b; body = l; taken = r .taken + 1 }) bytes) (measured-keeps clock b body) in
+    record { same = s ∙ ap (λ (q : Reach). onFrom (far q body) bytes) (sym x) }
 
 -- ---- in a body
 pub kept-more : (body : List ℕ) (at : ℕ) (s : List ℕ) (j : ℕ) → j < length s → kept body at (drop j s) ≡ kept (set body at (getD s j 0)) (at + 1) (drop (j + 1) s)
@@ -316,18 +262,7 @@ last-of p e (b ∷ s) h =
 pub walked-at : (p : Partial) (s : List ℕ) {q : Partial} → q ≡ walkedBy p s → q .at ≡ p .at + length s
 walked-at p s x = ap (λ (t : Partial). t .at) (x ∙ walked-is p s)
 
--- no body byte is there
-pub bodied-still : (bytes : List ℕ) (r : Reach) (body : List ℕ) (at n : ℕ) → n ≡ 0 → Over bytes r → {body′ : List ℕ}
-    → body′ ≡ kept body at (take n (drop (r .taken) bytes)) → Bodied bytes r body r body′
-unfolding kept
-bodied-still bytes r body at n e over {body′} y =
-    let same : body′ ≡ body = y ∙ ap (λ (m : ℕ). kept body at (take m (drop (r .taken) bytes))) e in
-    record { over = over; same = ap (λ (l : List ℕ). onFrom (far r l) bytes) (sym same) }
-
-pub bodied-none : {bytes : List ℕ} {r : Reach} (body : List ℕ) → Over bytes r → Bodied bytes r body r body
-bodied-none body over = record { over = over; same = refl }
-
-module _ (bytes : List ℕ) (r : Reach) (p : Partial) (c : Calm bytes r) (e : r .hearing ≡ Body p) (n : ℕ) (small : n ≤ p .size - p .at) (fits : r .taken + n ≤ length bytes) where
+module _ (bytes : List ℕ) (r : Reach) (p : Partial) (c : Quiet bytes r) (e : r .hearing ≡ Body p) (n : ℕ) (small : n ≤ p .size - p .at) (fits : r .taken + n ≤ length bytes) where
   abbrev i : ℕ
   i = r .taken
 
@@ -338,7 +273,7 @@ module _ (bytes : List ℕ) (r : Reach) (p : Partial) (c : Calm bytes r) (e : r 
   part-length = length-take-le n (drop i bytes) (simp length-drop (omega arith))
 
   still : newsByte (r .event) ≡ false
-  still = c .quiet (ap isHunting e)
+  still = c .quiet
 
   abbrev after : List ℕ → ℕ → Far
   after body k = record { heard = heard (Body (walkedBy p part)) (last p (r .event) part); body = kept body (p .at) part; taken = i + k }
@@ -369,28 +304,21 @@ module _ (bytes : List ℕ) (r : Reach) (p : Partial) (c : Calm bytes r) (e : r 
         ∙ ap (λ (u : Event). onFrom (record { heard = heard (Body next) u; body = body′; taken = i + n }) bytes) w
 
     -- the bytes end inside the body
-    pub bodied-part : 0 < n → length bytes ≤ i + n → Bodied bytes r body (record { hearing = Body next; event = Kept (next .at - 1); taken = i + n }) body′
-    bodied-part some h =
-        record {
-          over = λ w. omega (arith, fits);
-          same = walked-to (last-of p (r .event) part (omega (arith, part-length)) ∙ ap (λ (q : Partial). Kept (q .at - 1)) (sym x));
-        }
+    pub bodied-part : 0 < n → Onward bytes r body (record { hearing = Body next; event = Kept (next .at - 1); taken = i + n }) body′
+    bodied-part some =
+        record { same = walked-to (last-of p (r .event) part (omega (arith, part-length)) ∙ ap (λ (q : Partial). Kept (q .at - 1)) (sym x)) }
 
     -- the checksum is there too
-    pub bodied-whole : n ≡ p .size - p .at → i + n < length bytes → {q : Reach} → q ≡ gone (followed next (getD bytes (i + n) 0)) (i + n + 1) → Bodied bytes r body q body′
-    bodied-whole all h {q} w =
+    pub bodied-whole : n ≡ p .size - p .at → i + n < length bytes → {q : Reach} → q ≡ gone (followed next (getD bytes (i + n) 0)) (i + n + 1) → Onward bytes r body q body′
+    bodied-whole all h w =
         let f = getD bytes (i + n) 0 in
         let d : ltb (next .at) (next .size) ≡ false = le-ltb (next .at) (next .size) (omega (arith, at-next, size-next, all)) in
         let k : keep (followed next f .event) f body′ ≡ body′ = simp d in
-        let g : Bodied bytes r body (gone (followed next f) (i + n + 1)) body′ =
-        record {
-          over = λ v. absurd (no (sym (simp d) ∙ v));
-          same =
-              walked-to refl
-              ∙ on-one (record { heard = heard (Body next) (last p (r .event) part); body = body′; taken = i + n }) bytes h (last-quiet p (r .event) part still)
-              ∙ ap (λ (l : List ℕ). onFrom (record { heard = followed next f; body = l; taken = i + n + 1 }) bytes) k;
-        } in
-        subst (λ (t : Reach). Bodied bytes r body t body′) (sym w) g
+        let s =
+        walked-to refl
+        ∙ on-one (record { heard = heard (Body next) (last p (r .event) part); body = body′; taken = i + n }) bytes h (last-quiet p (r .event) part still)
+        ∙ ap (λ (l : List ℕ). onFrom (record { heard = followed next f; body = l; taken = i + n + 1 }) bytes) k in
+        record { same = s ∙ ap (λ (q : Reach). onFrom (far q body′) bytes) (sym w) }
 
 -- what is read of s where it is there
 pub getD-in : (s : List ℕ) (k d : ℕ) → k < length s → getD s k d ≡ getD s k 0
