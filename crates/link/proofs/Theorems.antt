@@ -2,18 +2,14 @@
 --     call-determined   byte, tick, send, session, restart: the answer, the link and every lent byte
 --     run-determined    a run of bytes
 --     open-determined   opening
---     hear-..           hearing's functions, which `linecount` uses too
 -- Assumes nothing.
 use mathlib.Core.Path.{_≡_}
 use mathlib.Core.List.{List}
 use Prim.Native.Nat.{ℕ}
 use Rattle.frame.proofs.Theorems.{fixed}
-use Rattle.reception.specs.declared.hearing.Heard.{Heard}
-use Rattle.reception.specs.declared.hearing.Hearing.{Hearing}
 use Rattle.link.specs.declared.state.Link.{Link}
 use Rattle.link.specs.declared.calls.Answered.{Answered}
 use Rattle.link.specs.declared.calls.Ran.{Ran}
-use Rattle.reception.specs.Hearing.{heardByte, heardTick}
 use Rattle.link.specs.State.{freshLink}
 use Rattle.link.specs.Step.{Out, Taken}
 use Rattle.link.specs.Calls.{Checked, Call, Run}
@@ -28,9 +24,3 @@ run-determined x y = (fixed (x .answer) (y .answer), fixed (x .line-left) (y .li
 
 pub open-determined : {r q : Link} → r ≡ freshLink → q ≡ freshLink → r ≡ q
 open-determined x y = fixed x y
-
-pub hear-byte-determined : (h : Hearing) (b : ℕ) {r q : Heard} → r ≡ heardByte b h → q ≡ heardByte b h → r ≡ q
-hear-byte-determined h b x y = fixed x y
-
-pub hear-tick-determined : (h : Hearing) {r q : Heard} → r ≡ heardTick h → q ≡ heardTick h → r ≡ q
-hear-tick-determined h x y = fixed x y
