@@ -20,7 +20,7 @@ pub fn is_marked(mask: &[u8], f: u16) -> bool
 }
 
 // The number of one bits of a mask of at most 32 bytes.
-pub fn ones(mask: &[u8]) -> u16
+pub(crate) fn ones(mask: &[u8]) -> u16
     requires { ⌜ length (now mask) ≤ 32 ⌝ }
     ensures { λ r. ⌜ r ≡ onesIn (now (mask .entry)) ⌝ }
 {

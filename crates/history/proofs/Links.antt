@@ -12,7 +12,7 @@ use Rattle.sending.specs.Rules.{Rules, told}
 use Rattle.reception.specs.Hearing.{heardByte, heardTick}
 use Rattle.sending.specs.Job.{still, onSingle, awaits, copiesOf, act}
 use Rattle.link.specs.Report.{replyBytes, saidEnd, saidOn, sumsOn, newsReception, newsSending}
-use Rattle.link.specs.Step.{Out, Taken, out, decided, decideOn, byteBy, byteOut, tickOut, news, quiet, runFrom, runOut}
+use Rattle.link.specs.Step.{Out, Taken, out, outcome, decision, decideOn, byteBy, byteOut, tickOut, news, quiet, runFrom, runOut}
 use Rattle.reception.specs.declared.hearing.Hearing.{Hearing}
 use Rattle.reception.specs.declared.hearing.Single.{Single}
 use Rattle.reception.specs.declared.hearing.Single.the-variants.{Ack, Nak, Can}
@@ -123,7 +123,7 @@ copy-mix f l e false = finish
 module _ (R : Rules) (g : ℕ → ℕ) (fit : Fits R g) (f : List ℕ) (a : Asking) where
   -- what the job's act comes to on the line, for either Says
   lift : (s : Says) (body frame : List ℕ) (h : Hearing) (size : ℕ) (q : Said) (z : Sums) (x : Act) (L n t : ℕ) → InTime h → take size frame ≡ f
-      → Claim R g size h L n t s a (x .job) (x .copy) → Outcome R g f a L n t s (out body frame (decided h size q z x))
+      → Claim R g size h L n t s a (x .job) (x .copy) → Outcome R g f a L n t s (out body frame (decision h size (outcome q z x)))
   lift none body frame h size q z x L n t i e c =
       record {
         sends = record { time = i; good = c .good; held = e };
@@ -146,7 +146,7 @@ module _ (R : Rules) (g : ℕ → ℕ) (fit : Fits R g) (f : List ℕ) (a : Aski
 
   pub lifted : (body frame : List ℕ) (h : Hearing) (size : ℕ) (q : Said) (z : Sums) (x : Act) (L n t : ℕ) → InTime h → take size frame ≡ f
       → Claim R g size h L n t (verdictIn a (x .sending) (x .session)) a (x .job) (x .copy)
-      → Outcome R g f a L n t (verdictIn a (x .sending) (x .session)) (out body frame (decided h size q z x))
+      → Outcome R g f a L n t (verdictIn a (x .sending) (x .session)) (out body frame (decision h size (outcome q z x)))
   lifted body frame h size q z x L n t i e c = lift (verdictIn a (x .sending) (x .session)) body frame h size q z x L n t i e c
 
   -- o is what a call of t ticks gave, with so many ticks left and so many copies before it

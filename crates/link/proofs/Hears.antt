@@ -27,7 +27,7 @@ use Rattle.link.specs.declared.report.Reception.the-variants as receptio
 use Rattle.link.specs.declared.state.Core.{Core}
 use Rattle.link.specs.declared.state.Link.{Link}
 use Rattle.sending.specs.Rules.{Rules, told}
-use Rattle.reception.specs.Hearing.{heard, heardByte, heardTick, keep}
+use Rattle.reception.specs.Hearing.{heard, heardByte, heardTick}
 use Rattle.reception.specs.Hearing as spec
 use Rattle.sending.specs.Job.{goesOn, awaits, isOpen, lose, onSingle, onEnd}
 use Rattle.sending.specs.declared.report.Sending.the-variants as sending

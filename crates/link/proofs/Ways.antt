@@ -1,7 +1,6 @@
 -- A link call, by its ways out: too short a line, too short a buffer for the frame, a refusal of its own, or what `emit` leaves.
 -- Assumes nothing.
 use mathlib.Core.Path.{_≡_, subst, _∙_}
-use mathlib.Core.Bool.{true, false}
 use mathlib.Core.List.{List}
 use Prim.Native.Nat.{ℕ, _≤_, _<_}
 use lib.ListN.{length}
@@ -9,7 +8,6 @@ use borrow.Author.Tests.{lt-ltb, le-ltb}
 use Rattle.frame.specs.declared.refusal.Refusal.{Refusal}
 use Rattle.frame.specs.declared.refusal.Refusal.the-variants.{Room}
 use Rattle.link.specs.declared.state.Link.{Link}
-use Rattle.link.specs.declared.report.Report.{Report}
 use Rattle.link.specs.declared.calls.Answer.the-variants as answer
 use Rattle.link.specs.declared.calls.Answered.{Answered}
 use Rattle.link.specs.declared.calls.RunAnswer.the-variants as run

@@ -2,23 +2,19 @@
 -- Assumes nothing.
 use Prim.Native.Nat.{ℕ}
 use mathlib.Core.Path.{_≡_}
-use mathlib.Core.Bool.{Bool, true, false}
+use mathlib.Core.Bool.{Bool}
 use mathlib.Core.List.{List, []}
 use lib.Dec.{ltb}
 use lib.ListN.{length}
 use Rattle.frame.specs.Pick.{pick}
 use Rattle.frame.specs.Bytes.{over}
-use Rattle.frame.specs.Frame.{frameOf}
 use Rattle.frame.specs.declared.refusal.Refusal.{Refusal}
 use Rattle.frame.specs.declared.refusal.Refusal.the-variants.{Room, Busy, Kind, Long}
 use Rattle.sending.specs.Job.{isOpen}
 use Rattle.link.specs.Step.{Out, Taken, reportOf}
-use Rattle.link.specs.declared.report.Report.{Report}
 use Rattle.link.specs.declared.state.Link.{Link}
-use Rattle.link.specs.declared.calls.Answer.{Answer}
 use Rattle.link.specs.declared.calls.Answer.the-variants as answer
 use Rattle.link.specs.declared.calls.Answered.{Answered}
-use Rattle.link.specs.declared.calls.RunAnswer.{RunAnswer}
 use Rattle.link.specs.declared.calls.RunAnswer.the-variants as run
 use Rattle.link.specs.declared.calls.Ran.{Ran}
 

@@ -10,10 +10,11 @@ use Rattle.sending.specs.Rules.{Rules}
 use Rattle.reception.specs.Hearing.{heardByte, heardTick, keep, isHunting}
 use Rattle.sending.specs.Job.{act, start, still, onRestart}
 use Rattle.link.specs.Report.{replyBytes, said, saidOn, sums, sumsOn, either, newsReception, newsSending, newsSession, newsReset}
-use Rattle.link.specs.State.{freshCore, freshLink}
+use Rattle.link.specs.State.{freshLink}
 use Rattle.reception.specs.declared.hearing.Event.{Event}
 use Rattle.reception.specs.declared.hearing.Heard.{Heard}
 use Rattle.reception.specs.declared.hearing.Hearing.{Hearing}
+use Rattle.reception.specs.declared.hearing.Hearing.the-variants.{Hunting}
 use Rattle.sending.specs.declared.job.Act.{Act}
 use Rattle.sending.specs.declared.job.Asking.{Asking}
 use Rattle.sending.specs.declared.job.Job.{Job}
@@ -68,11 +69,12 @@ pub record Decision : Type 0 where
   -- the number of body bytes handed up
   pub up : ℕ
 
--- the numbers decided: hearing, what reception says, the run of bad sums, and the job's act
-abbrev pub decided : Hearing → ℕ → Said → Sums → Act → Decision
-decided h size q z a =
+-- what is decided of reception, the run of bad sums and the job: all but hearing and the held frame's length
+abbrev pub outcome : Said → Sums → Act → Outcome
+outcome q z a =
     record {
-      core = record { hearing = h; job = a .job; bad = z .bad; size = size };
+      job = a .job;
+      bad = z .bad;
       reception = q .reception;
       sending = a .sending;
       session = a .session;
@@ -82,10 +84,27 @@ decided h size q z a =
       up = q .up;
     }
 
+-- the decision, with these two
+abbrev pub decision : Hearing → ℕ → Outcome → Decision
+decision h size o =
+    record {
+      core = record { hearing = h; job = o .job; bad = o .bad; size = size };
+      reception = o .reception;
+      sending = o .sending;
+      session = o .session;
+      reset = o .reset;
+      reply = o .reply;
+      copy = o .copy;
+      up = o .up;
+    }
+
+-- the outcome of an event, for a job and a run of bad sums
+abbrev pub outcomeOn : Rules → ℕ → Event → Job → ℕ → Outcome
+outcomeOn R size e j bad = outcome (saidOn e j) (sumsOn e bad) (act R size e j)
+
 -- a byte or a tick: reception first, then the sender and the session
 abbrev pub decideOn : Rules → Core → Heard → Decision
-decideOn R k h =
-    decided (h .hearing) (k .size) (saidOn (h .event) (k .job)) (sumsOn (h .event) (k .bad)) (act R (k .size) (h .event) (k .job))
+decideOn R k h = decision (h .hearing) (k .size) (outcomeOn R (k .size) (h .event) (k .job) (k .bad))
 
 -- what goes out: 06 or 15, then the copy; the body's first bytes are handed up
 abbrev pub out : List ℕ → List ℕ → Decision → Out
@@ -109,18 +128,23 @@ byteOut R l b = byteBy R l b (heardByte b (l .core .hearing))
 unfoldable pub tickOut : Rules → Link → Out
 tickOut R l = out (l .body) (l .frame) (decideOn R (l .core) (heardTick (l .core .hearing)))
 
+-- an act with which reception has this much to say, and no byte of its own
+abbrev pub told : Reception → ℕ → Act → Outcome
+told r bad a = outcome (said r Silent 0) (sums bad reset.Nothing) a
+
 -- An accepted send while hunting puts copy 1 out at once; inside a frame it is due. The frame is held in the link.
 abbrev pub opened : Core → ℕ → Act → Decision
-opened k size a = decided (k .hearing) size (said reception.Nothing Silent 0) (sums (k .bad) reset.Nothing) a
+opened k size a = decision (k .hearing) size (told reception.Nothing (k .bad) a)
 
 unfoldable pub openOut : Link → Asking → List ℕ → Out
 openOut l a f = out (l .body) (over f (l .frame)) (opened (l .core) (length f) (start (isHunting (l .core .hearing)) a 0))
 
 -- Restart puts out 15, makes the link fresh and reports abandoned.
-abbrev pub restarted : Act → Decision
-restarted a =
+abbrev pub restarting : Act → Outcome
+restarting a =
     record {
-      core = freshCore;
+      job = Idle;
+      bad = 0;
       reception = reception.Nothing;
       sending = a .sending;
       session = a .session;
@@ -129,6 +153,9 @@ restarted a =
       copy = false;
       up = 0;
     }
+
+abbrev pub restarted : Act → Decision
+restarted a = decision Hunting 0 (restarting a)
 
 unfoldable pub restartOut : Link → Out
 restartOut l = out (freshLink .body) (freshLink .frame) (restarted (onRestart (l .core .job)))
@@ -143,7 +170,7 @@ news o =
 
 -- a call that does nothing and reports nothing
 abbrev pub quiet : Link → Out
-quiet l = out (l .body) (l .frame) (decided (l .core .hearing) (l .core .size) (said reception.Nothing Silent 0) (sums (l .core .bad) reset.Nothing) (still (l .core .job)))
+quiet l = out (l .body) (l .frame) (decision (l .core .hearing) (l .core .size) (told reception.Nothing (l .core .bad) (still (l .core .job))))
 
 pub record Taken : Type 0 where
   pub out : Out
@@ -161,53 +188,6 @@ runFrom R o n (b ∷ bs) =
 abbrev pub runOut : Rules → Link → List ℕ → Taken
 runOut R l bytes = runFrom R (quiet l) 0 bytes
 
--- What the code decides apart from hearing and the held frame's length; with them it is the decision above.
-abbrev pub outcome : Said → Sums → Act → Outcome
-outcome q z a =
-    record {
-      job = a .job;
-      bad = z .bad;
-      reception = q .reception;
-      sending = a .sending;
-      session = a .session;
-      reset = either (z .reset) (a .reset);
-      reply = q .reply;
-      copy = a .copy;
-      up = q .up;
-    }
-
-abbrev pub outcomeOn : Rules → ℕ → Event → Job → ℕ → Outcome
-outcomeOn R size e j bad = outcome (saidOn e j) (sumsOn e bad) (act R size e j)
-
-abbrev pub told : Reception → ℕ → Act → Outcome
-told r bad a = outcome (said r Silent 0) (sums bad reset.Nothing) a
-
-abbrev pub restarting : Act → Outcome
-restarting a =
-    record {
-      job = Idle;
-      bad = 0;
-      reception = reception.Nothing;
-      sending = a .sending;
-      session = a .session;
-      reset = reset.Nothing;
-      reply = Nak;
-      copy = false;
-      up = 0;
-    }
-
-abbrev pub decision : Hearing → ℕ → Outcome → Decision
-decision h size o =
-    record {
-      core = record { hearing = h; job = o .job; bad = o .bad; size = size };
-      reception = o .reception;
-      sending = o .sending;
-      session = o .session;
-      reset = o .reset;
-      reply = o .reply;
-      copy = o .copy;
-      up = o .up;
-    }
-
+-- the report of an outcome, with the numbers of bytes
 abbrev pub reported : Outcome → ℕ → ℕ → Report
 reported o line up = record { reception = o .reception; sending = o .sending; session = o .session; reset = o .reset; line = line; up = up }

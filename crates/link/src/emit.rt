@@ -45,7 +45,7 @@ fn put_reply(reply: Reply, line: &mut [u8]) -> usize
 }
 
 // Writes the single byte and the copy behind it; returns how many bytes.
-pub fn put_line(outcome: Outcome, size: u16, frame: &[u8], line: &mut [u8]) -> u16
+pub(crate) fn put_line(outcome: Outcome, size: u16, frame: &[u8], line: &mut [u8]) -> u16
     requires { ⌜ (length (now frame) ≡ 257) × (258 ≤ length (now line)) ⌝ }
     ensures { λ r. ⌜ Put (replyBytes (outcome .reply) ++ pick (outcome .copy) (take size (now (frame .entry))) []) (now (line .entry)) r (now (line .exit)) ⌝ }
 {
@@ -60,7 +60,7 @@ pub fn put_line(outcome: Outcome, size: u16, frame: &[u8], line: &mut [u8]) -> u
 }
 
 // Writes the body's first bytes; returns how many.
-pub fn put_up(body: &[u8], n: u8, up: &mut [u8]) -> u16
+pub(crate) fn put_up(body: &[u8], n: u8, up: &mut [u8]) -> u16
     requires { ⌜ (length (now body) ≡ 254) × (254 ≤ length (now up)) ⌝ }
     ensures { λ r. ⌜ Put (take n (now (body .entry))) (now (up .entry)) r (now (up .exit)) ⌝ }
 {
@@ -112,7 +112,13 @@ pub fn core_of(outcome: Outcome, hearing: Hearing, size: u16) -> Core
 }
 
 // What an accepted call answers that hands nothing up.
-pub fn emit(link: Link, outcome: Outcome, hearing: Hearing, size: u16, line: &mut [u8]) -> Answered
+pub(crate) fn emit(
+    link: Link,
+    outcome: Outcome,
+    hearing: Hearing,
+    size: u16,
+    line: &mut [u8],
+) -> Answered
     requires { ⌜ (258 ≤ length (now line)) × (outcome .up ≡ 0) ⌝ }
     ensures { λ r. ⌜ Emitted (spec.out (link .body) (link .frame) (spec.decision hearing size outcome)) (now (line .entry)) r (now (line .exit)) ⌝ }
 {

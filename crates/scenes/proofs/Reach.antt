@@ -18,7 +18,7 @@ use Rattle.sending.specs.Rules.{Rules, time, base}
 use Rattle.sending.specs.Job.{goesOn, still, putOut, fail, onTick}
 use Rattle.link.specs.Report.{saidOn, sumsOn}
 use Rattle.link.specs.State.{noBody, noFrame}
-use Rattle.link.specs.Step.{Out, out, decided, byteOut, tickOut, openOut}
+use Rattle.link.specs.Step.{Out, out, outcome, decision, byteOut, tickOut, openOut}
 use Rattle.reception.specs.declared.hearing.Hearing.{Hearing}
 use Rattle.reception.specs.declared.hearing.Hearing.the-variants.{Hunting, Head}
 use Rattle.reception.specs.declared.hearing.Event.{Event}
@@ -61,7 +61,7 @@ module _ (R : Rules) (a : Asking) (f : List ℕ) where
 
   -- what a tick gives on it
   abbrev gives : Hearing → Event → Job → Act → Out
-  gives h e j x = out noBody (over f noFrame) (decided h (length f) (saidOn e j) (sumsOn e 0) x)
+  gives h e j x = out noBody (over f noFrame) (decision h (length f) (outcome (saidOn e j) (sumsOn e 0) x))
 
   -- the calls h take t ticks and put out these bytes, with no verdict before their end; then the watch is w, over the calls after them
   record Leads (l : Link) (h : List Call) (w : List Call → Watch) (t : ℕ) (line : List ℕ) : Type 0 where

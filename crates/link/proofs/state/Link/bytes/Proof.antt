@@ -1,6 +1,6 @@
 -- `link::state::Link::bytes` meets its contract.
 -- Assumes nothing.
-use mathlib.Core.Path.{_≡_, sym, ap, _∙_}
+use mathlib.Core.Path.{sym, ap, _∙_}
 use denote.Ref.{now}
 use Rattle.sending.specs.Rules.{base}
 use Rattle.frame.specs.Bytes.{over}

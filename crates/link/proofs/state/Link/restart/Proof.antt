@@ -1,8 +1,7 @@
 -- `link::state::Link::restart` meets its contract.
 -- Assumes nothing.
-use mathlib.Core.Path.{refl, sym, ap, _∙_}
+use mathlib.Core.Path.{refl}
 use denote.Ref.{now}
-use Rattle.sending.specs.Rules.{base}
 use Rattle.link.specs.Step.{restartOut}
 use Rattle.link.specs.Calls.{passes}
 use Rattle.link.proofs.Ways.{short-line, short-up, refuse, accept}

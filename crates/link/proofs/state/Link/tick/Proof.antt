@@ -1,6 +1,6 @@
 -- `link::state::Link::tick` meets its contract.
 -- Assumes nothing.
-use mathlib.Core.Path.{refl, sym, ap, _∙_}
+use mathlib.Core.Path.{refl}
 use denote.Ref.{now}
 use Rattle.sending.specs.Rules.{base}
 use Rattle.link.specs.Step.{tickOut}
