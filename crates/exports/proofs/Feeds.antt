@@ -14,7 +14,10 @@ use lib.ListN.{length, drop, getD, drop-of-length-le}
 use lib.Seq.{drop-cons}
 use Rattle.sending.specs.Rules.{base}
 use Rattle.link.specs.Step.{Out, byteOut, tickOut, openOut}
-use Rattle.link.specs.Calls.{Checked, Call, checks, passes, sessionChecks}
+use Rattle.step.specs.Checks.{checks, sessionChecks}
+use Rattle.step.specs.declared.checks.Checked.{Checked}
+use Rattle.step.specs.declared.checks.Checked.the-variants.{Passes}
+use Rattle.link.specs.Calls.{Call}
 use Rattle.link.specs.declared.state.Link.{Link}
 use Rattle.link.specs.State.{freshLink}
 use Rattle.link.specs.declared.calls.Answered.{Answered}
@@ -35,7 +38,7 @@ fed own k o l line up line′ up′ r s n m e p q a = simp (← e, q, a, p .answ
 -- k is of the buffers as they were lent; here they are line and up
 module _ (line₀ up₀ : List ℕ) (l : Link) (line up : List ℕ) (s : ℕ) where
   abbrev k : Checked
-  k = checks line₀ up₀ passes
+  k = checks line₀ up₀ Passes
 
   abbrev f : Fed
   f = at l line up s
@@ -51,11 +54,11 @@ module _ (line₀ up₀ : List ℕ) (l : Link) (line up : List ℕ) (s : ℕ) wh
 
     pub bytes-on : (line′ up′ : List ℕ) (r : Answered) (n m : ℕ) → i < length bytes
         → length line ≡ length line₀ → length up ≡ length up₀
-        → Call passes (byteOut base l (getD bytes i 0)) l line up r line′ up′ → n ≡ mixed s m → m ≡ answerNumber (r .answer)
+        → Call Passes (byteOut base l (getD bytes i 0)) l line up r line′ up′ → n ≡ mixed s m → m ≡ answerNumber (r .answer)
         → bytesFed k f (drop i bytes) ≡ bytesFed k (at (r .link) line′ up′ n) (drop (i + 1) bytes)
     bytes-on line′ up′ r n m h p q x e a =
         bytes-more h
-        ∙ ap (λ (g : Fed). bytesFed k g (drop (i + 1) bytes)) (fed passes k (byteOut base l (getD bytes i 0)) l line up line′ up′ r s n m (same-checks passes line up line₀ up₀ p q) x e a)
+        ∙ ap (λ (g : Fed). bytesFed k g (drop (i + 1) bytes)) (fed Passes k (byteOut base l (getD bytes i 0)) l line up line′ up′ r s n m (same-checks Passes line up line₀ up₀ p q) x e a)
 
   module _ (i n : ℕ) where
     pub ticks-start : i ≡ 0 → ticksFed k f n ≡ ticksFed k f (n - i)
@@ -71,11 +74,11 @@ module _ (line₀ up₀ : List ℕ) (l : Link) (line up : List ℕ) (s : ℕ) wh
 
     pub ticks-on : (line′ up′ : List ℕ) (r : Answered) (t m : ℕ) → i < n
         → length line ≡ length line₀ → length up ≡ length up₀
-        → Call passes (tickOut base l) l line up r line′ up′ → t ≡ mixed s m → m ≡ answerNumber (r .answer)
+        → Call Passes (tickOut base l) l line up r line′ up′ → t ≡ mixed s m → m ≡ answerNumber (r .answer)
         → ticksFed k f (n - i) ≡ ticksFed k (at (r .link) line′ up′ t) (n - (i + 1))
     ticks-on line′ up′ r t m h p q x e a =
         ticks-more h
-        ∙ ap (λ (g : Fed). ticksFed k g (n - (i + 1))) (fed passes k (tickOut base l) l line up line′ up′ r s t m (same-checks passes line up line₀ up₀ p q) x e a)
+        ∙ ap (λ (g : Fed). ticksFed k g (n - (i + 1))) (fed Passes k (tickOut base l) l line up line′ up′ r s t m (same-checks Passes line up line₀ up₀ p q) x e a)
 
 -- what is reached is what is answered
 pub ended : (f : Fed) (l : Link) (line up : List ℕ) (s : ℕ) → f ≡ at l line up s → Ended f s line up
@@ -89,7 +92,7 @@ ended f l line up s e =
 -- ---- before the ticks
 module _ (ps line up : List ℕ) (l : Link) (fresh : l ≡ freshLink) where
   pub asked-on : (asks : Bool) (line′ up′ : List ℕ) (r : Answered) → asks ≡ true
-      → Call (sessionChecks l (length ps)) (openOut l (Asks 7) (frameOf 0 7 ps)) l line up r line′ up′
+      → Call (sessionChecks (l .core .job) (length ps)) (openOut l (Asks 7) (frameOf 0 7 ps)) l line up r line′ up′
       → asked asks ps (opened line up) ≡ at (r .link) line′ up′ 0
   asked-on asks line′ up′ r e x = simp (e, x .answer, x .line-left, x .up-left, fresh)
 
@@ -97,17 +100,17 @@ module _ (ps line up : List ℕ) (l : Link) (fresh : l ≡ freshLink) where
   asked-not asks e = simp (e, fresh)
 
 pub heard-on : (bs : List ℕ) (f : Fed) (l l′ : Link) (line up line′ up′ : List ℕ) (s : ℕ) → f ≡ at l line up 0
-    → bytesFed (checks line up passes) (at l line up 0) bs ≡ at l′ line′ up′ s → heardFed bs f ≡ at l′ line′ up′ 0
+    → bytesFed (checks line up Passes) (at l line up 0) bs ≡ at l′ line′ up′ s → heardFed bs f ≡ at l′ line′ up′ 0
 heard-on bs f l l′ line up line′ up′ s e x = ap (heardFed bs) e ∙ ap unsummed x
 
 -- ticks on a link that was made ready
 pub ready-ticks : (f : Fed) (l : Link) (line up line₀ up₀ line′ up′ : List ℕ) (n r : ℕ)
     → length line ≡ length line₀ → length up ≡ length up₀ → f ≡ at l line up 0
-    → Ended (ticksFed (checks line up passes) (at l line up 0) n) r line′ up′ → Ended (ticksFed (checks line₀ up₀ passes) f n) r line′ up′
+    → Ended (ticksFed (checks line up Passes) (at l line up 0) n) r line′ up′ → Ended (ticksFed (checks line₀ up₀ Passes) f n) r line′ up′
 ready-ticks f l line up line₀ up₀ line′ up′ n r p q x y =
-    let e : ticksFed (checks line up passes) (at l line up 0) n ≡ ticksFed (checks line₀ up₀ passes) f n =
-    ap (λ (z : Checked). ticksFed z (at l line up 0) n) (same-checks passes line up line₀ up₀ p q)
-    ∙ ap (λ (z : Fed). ticksFed (checks line₀ up₀ passes) z n) (sym x) in
+    let e : ticksFed (checks line up Passes) (at l line up 0) n ≡ ticksFed (checks line₀ up₀ Passes) f n =
+    ap (λ (z : Checked). ticksFed z (at l line up 0) n) (same-checks Passes line up line₀ up₀ p q)
+    ∙ ap (λ (z : Fed). ticksFed (checks line₀ up₀ Passes) z n) (sym x) in
     record {
       answer = y .answer ∙ ap (λ (g : Fed). g .sum) e;
       line-left = y .line-left ∙ ap (λ (g : Fed). g .line) e;

@@ -15,7 +15,10 @@ use borrow.Author.Tests.{eq-eqb, ne-eqb}
 use Rattle.frame.specs.Pick.{pick}
 use Rattle.sending.specs.Rules.{base}
 use Rattle.link.specs.Step.{Out, Taken, byteOut, news, runFrom, runOut, quiet}
-use Rattle.link.specs.Calls.{Checked, passes, refuses, checks, ran, Run}
+use Rattle.step.specs.Checks.{checks}
+use Rattle.step.specs.declared.checks.Checked.{Checked}
+use Rattle.step.specs.declared.checks.Checked.the-variants.{Passes, Refuses}
+use Rattle.link.specs.Calls.{ran, Run}
 use Rattle.link.specs.declared.state.Link.{Link}
 use Rattle.link.specs.declared.calls.Ran.{Ran}
 use Rattle.exports.specs.Numbers.{mixed, runNumber, takenBy}
@@ -38,8 +41,8 @@ from-most o n (b ∷ bs) =
     pick-ok (λ (t : Taken). t .taken ≤ n + suc (length bs)) (news next) (record { out = next; taken = n + 1 }) (runFrom base next (n + 1) bs) (omega arith) (omega (arith, rest))
 
 pub taken-most : (k : Checked) (l : Link) (bs : List ℕ) → takenBy (ran k (runOut base l bs) l .answer) ≤ length bs
-taken-most passes l bs = let h = from-most (quiet l) 0 bs in omega (arith, h)
-taken-most (refuses x) l bs = omega arith
+taken-most Passes l bs = let h = from-most (quiet l) 0 bs in omega (arith, h)
+taken-most (Refuses x) l bs = omega arith
 
 -- what the code hands to a run: from i to i + n, where n is the least of what is left and most
 pub part-given : (i n most : ℕ) (input : List ℕ) → n ≡ min (length input - i) most → take (i + n - i) (drop i input) ≡ part most (drop i input)
@@ -52,7 +55,7 @@ part-most most bs = rw (length-take (min (length bs) most) bs) (omega arith)
 
 module _ (line₀ up₀ : List ℕ) (most : ℕ) (input : List ℕ) where
   abbrev k : Checked
-  k = checks line₀ up₀ passes
+  k = checks line₀ up₀ Passes
 
   -- a run on what is left from i on
   module _ (l : Link) (line up : List ℕ) (s i : ℕ) where
@@ -69,10 +72,10 @@ module _ (line₀ up₀ : List ℕ) (most : ℕ) (input : List ℕ) where
 
     module _ (bytes line′ up′ : List ℕ) (r : Ran) (number taken n m : ℕ) (is : bytes ≡ part most rest) (p : length line ≡ length line₀) (q : length up ≡ length up₀) (x : Run (runOut base l bytes) l line up r line′ up′) (a : number ≡ runNumber (r .answer)) (t : taken ≡ takenBy (r .answer)) (e : n ≡ mixed s number) (g : m ≡ mixed n taken) where
       abbrev own : Checked
-      own = checks line up passes
+      own = checks line up Passes
 
       same : own ≡ k
-      same = same-checks passes line up line₀ up₀ p q
+      same = same-checks Passes line up line₀ up₀ p q
 
       ran-as : r ≡ ranBy k f (part most rest)
       ran-as = x .answer ∙ ap (λ (z : Checked). ranBy z f bytes) same ∙ ap (ranBy k f) is

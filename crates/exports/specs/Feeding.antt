@@ -11,7 +11,10 @@ use Rattle.frame.specs.Frame.{frameOf}
 use Rattle.sending.specs.Rules.{base}
 use Rattle.link.specs.State.{freshLink}
 use Rattle.link.specs.Step.{Out, Taken, byteOut, tickOut, openOut, runOut}
-use Rattle.link.specs.Calls.{Checked, passes, checks, sessionChecks, answered, ran, left}
+use Rattle.step.specs.Checks.{checks, sessionChecks}
+use Rattle.step.specs.declared.checks.Checked.{Checked}
+use Rattle.step.specs.declared.checks.Checked.the-variants.{Passes}
+use Rattle.link.specs.Calls.{answered, ran, left}
 use Rattle.link.specs.declared.state.Link.{Link}
 use Rattle.link.specs.declared.calls.Answered.{Answered}
 use Rattle.link.specs.declared.calls.Ran.{Ran}
@@ -81,8 +84,8 @@ runsFed (suc n) k most f bs =
 abbrev pub asked : Bool → List ℕ → Fed → Fed
 asked asks ps f =
     pick asks
-    (after (checks (f .line) (f .up) (sessionChecks (f .link) (length ps))) (openOut (f .link) (Asks 7) (frameOf 0 7 ps))
-    (answered (checks (f .line) (f .up) (sessionChecks (f .link) (length ps))) (openOut (f .link) (Asks 7) (frameOf 0 7 ps)) (f .link) .link)
+    (after (checks (f .line) (f .up) (sessionChecks (f .link .core .job) (length ps))) (openOut (f .link) (Asks 7) (frameOf 0 7 ps))
+    (answered (checks (f .line) (f .up) (sessionChecks (f .link .core .job) (length ps))) (openOut (f .link) (Asks 7) (frameOf 0 7 ps)) (f .link) .link)
     (f .sum) f)
     f
 
@@ -92,7 +95,7 @@ unsummed f = at (f .link) (f .line) (f .up) 0
 
 -- these bytes, each in a call of its own; nothing is mixed in
 abbrev pub heardFed : List ℕ → Fed → Fed
-heardFed bs f = unsummed (bytesFed (checks (f .line) (f .up) passes) f bs)
+heardFed bs f = unsummed (bytesFed (checks (f .line) (f .up) Passes) f bs)
 
 -- what an exported call answers, and leaves in the lent buffers
 pub record Ended (f : Fed) (r : ℕ) (line′ up′ : List ℕ) : Type 0 where

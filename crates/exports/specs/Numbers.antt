@@ -13,15 +13,15 @@ use Rattle.frame.specs.declared.reader.Reading.{Reading}
 use Rattle.frame.specs.declared.reader.Reading.the-variants as reading
 use Rattle.frame.specs.declared.refusal.Refusal.{Refusal}
 use Rattle.units.specs.declared.Millis.{Millis}
-use Rattle.link.specs.declared.report.Reception.{Reception}
-use Rattle.link.specs.declared.report.Reception.the-variants as reception
+use Rattle.step.specs.declared.report.Reception.{Reception}
+use Rattle.step.specs.declared.report.Reception.the-variants as reception
 use Rattle.sending.specs.declared.report.Sending.{Sending}
 use Rattle.sending.specs.declared.report.Sending.the-variants as sending
 use Rattle.sending.specs.declared.report.Session.{Session}
 use Rattle.sending.specs.declared.report.Session.the-variants as session
 use Rattle.sending.specs.declared.report.Reset.{Reset}
 use Rattle.sending.specs.declared.report.Reset.the-variants as reset
-use Rattle.link.specs.declared.report.Report.{Report}
+use Rattle.step.specs.declared.report.Report.{Report}
 use Rattle.link.specs.declared.calls.Answer.{Answer}
 use Rattle.link.specs.declared.calls.Answer.the-variants as answer
 use Rattle.link.specs.declared.calls.RunAnswer.{RunAnswer}

@@ -6,7 +6,8 @@ use link::Link;
 ghost use mathlib.Core.Path.{_≡_};
 ghost use Prim.Native.Nat.{min};
 ghost use lib.ListN.{length};
-ghost use Rattle.link.specs.Calls.{checks, passes};
+ghost use Rattle.step.specs.Checks.{checks};
+ghost use Rattle.step.specs.declared.checks.Checked.the-variants.{Passes};
 ghost use Rattle.exports.specs.Feeding.{Ended, at, opened, asked, heardFed, bytesFed, ticksFed, runsFed};
 
 fn least(a: usize, b: usize) -> usize
@@ -21,7 +22,7 @@ fn least(a: usize, b: usize) -> usize
 // Runs of at most so many bytes, until all are taken.
 #[no_mangle]
 pub extern "C" fn sarnaqel_runs(input: &[u8], most: usize, line: &mut [u8], up: &mut [u8]) -> u64
-    ensures { λ r. ⌜ Ended (runsFed (length (now (input .entry))) (checks (now (line .entry)) (now (up .entry)) passes) most (opened (now (line .entry)) (now (up .entry))) (now (input .entry))) r (now (line .exit)) (now (up .exit)) ⌝ }
+    ensures { λ r. ⌜ Ended (runsFed (length (now (input .entry))) (checks (now (line .entry)) (now (up .entry)) Passes) most (opened (now (line .entry)) (now (up .entry))) (now (input .entry))) r (now (line .exit)) (now (up .exit)) ⌝ }
 {
     let mut link = Link::open();
     let mut sum = 0;
@@ -51,7 +52,7 @@ struct Reached {
 
 // Every byte in a call of its own. Every call of a link has one place in this module, since LLVM inlines what is called once.
 fn fed(start: Link, input: &[u8], line: &mut [u8], up: &mut [u8]) -> Reached
-    ensures { λ r. ⌜ bytesFed (checks (now (line .entry)) (now (up .entry)) passes) (at start (now (line .entry)) (now (up .entry)) 0) (now (input .entry)) ≡ at (r .link) (now (line .exit)) (now (up .exit)) (r .sum) ⌝ }
+    ensures { λ r. ⌜ bytesFed (checks (now (line .entry)) (now (up .entry)) Passes) (at start (now (line .entry)) (now (up .entry)) 0) (now (input .entry)) ≡ at (r .link) (now (line .exit)) (now (up .exit)) (r .sum) ⌝ }
 {
     let mut link = start;
     let mut sum = 0;
@@ -72,7 +73,7 @@ fn fed(start: Link, input: &[u8], line: &mut [u8], up: &mut [u8]) -> Reached
 // A fresh link that is fed so.
 #[no_mangle]
 pub extern "C" fn sarnaqel_bytes(input: &[u8], line: &mut [u8], up: &mut [u8]) -> u64
-    ensures { λ r. ⌜ Ended (bytesFed (checks (now (line .entry)) (now (up .entry)) passes) (opened (now (line .entry)) (now (up .entry))) (now (input .entry))) r (now (line .exit)) (now (up .exit)) ⌝ }
+    ensures { λ r. ⌜ Ended (bytesFed (checks (now (line .entry)) (now (up .entry)) Passes) (opened (now (line .entry)) (now (up .entry))) (now (input .entry))) r (now (line .exit)) (now (up .exit)) ⌝ }
 {
     let fresh = Link::open();
     let reached = fed(fresh, input, line, up);
@@ -103,7 +104,7 @@ fn prepared(asks: bool, parameters: &[u8], heard: &[u8], line: &mut [u8], up: &m
 
 // So many ticks.
 fn ticked(start: Link, n: u64, line: &mut [u8], up: &mut [u8]) -> u64
-    ensures { λ r. ⌜ Ended (ticksFed (checks (now (line .entry)) (now (up .entry)) passes) (at start (now (line .entry)) (now (up .entry)) 0) n) r (now (line .exit)) (now (up .exit)) ⌝ }
+    ensures { λ r. ⌜ Ended (ticksFed (checks (now (line .entry)) (now (up .entry)) Passes) (at start (now (line .entry)) (now (up .entry)) 0) n) r (now (line .exit)) (now (up .exit)) ⌝ }
 {
     let mut link = start;
     let mut sum = 0;
@@ -128,7 +129,7 @@ pub extern "C" fn sarnaqel_ticks(
     line: &mut [u8],
     up: &mut [u8],
 ) -> u64
-    ensures { λ r. ⌜ Ended (ticksFed (checks (now (line .entry)) (now (up .entry)) passes) (heardFed (now (heard .entry)) (asked asks (now (parameters .entry)) (opened (now (line .entry)) (now (up .entry))))) n) r (now (line .exit)) (now (up .exit)) ⌝ }
+    ensures { λ r. ⌜ Ended (ticksFed (checks (now (line .entry)) (now (up .entry)) Passes) (heardFed (now (heard .entry)) (asked asks (now (parameters .entry)) (opened (now (line .entry)) (now (up .entry))))) n) r (now (line .exit)) (now (up .exit)) ⌝ }
 {
     let link = prepared(asks, parameters, heard, line, up);
     ticked(link, n, line, up)

@@ -1,11 +1,11 @@
 // What the calls of a run told, as one number.
 use link::Answer;
-use link::Reception;
-use link::Report;
 use link::RunAnswer;
 use sending::Reset;
 use sending::Sending;
 use sending::Session;
+use step::Reception;
+use step::Report;
 ghost use mathlib.Core.Path.{_≡_};
 ghost use Rattle.exports.specs.Numbers as spec;
 

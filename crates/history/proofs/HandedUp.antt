@@ -14,8 +14,11 @@ use Rattle.frame.proofs.Theorems.{built-reads}
 use Rattle.sending.specs.Rules.{Rules}
 use Rattle.reception.specs.Hearing.{heard, heardByte, heardTick, hunted, more, ended, later, keep}
 use Rattle.link.specs.State.{freshLink, noBody}
-use Rattle.link.specs.Step.{Out, Taken, out, decideOn, byteBy, byteOut, tickOut, openOut, restartOut, runOut}
-use Rattle.link.specs.Calls.{Checked, passes, refuses, roomChecks}
+use Rattle.step.specs.Step.{decideOn}
+use Rattle.link.specs.Step.{Out, Taken, out, byteBy, byteOut, tickOut, openOut, restartOut, runOut}
+use Rattle.step.specs.Checks.{roomChecks}
+use Rattle.step.specs.declared.checks.Checked.{Checked}
+use Rattle.step.specs.declared.checks.Checked.the-variants.{Passes, Refuses}
 use Rattle.reception.specs.declared.hearing.Partial.{Partial}
 use Rattle.reception.specs.declared.hearing.Hearing.{Hearing}
 use Rattle.reception.specs.declared.hearing.Hearing.the-variants.{Hunting, Head, Body}
@@ -168,8 +171,8 @@ what-traced R xs l (session command ps) x t = same-bytes xs _ (record { hears = 
 what-traced R xs l restart x t = same-bytes xs _ (record { hears = tt; body = refl })
 
 done-traced : (xs bs : List ℕ) (l : Link) (c : Checked) (o : Out) → Traced xs l → Traced (xs ++ bs) (o .link) → Traced (xs ++ ifTaken (doneBy c o) bs) (next l (doneBy c o))
-done-traced xs bs l passes o t u = u
-done-traced xs bs l (refuses k) o t u = same-bytes xs l t
+done-traced xs bs l Passes o t u = u
+done-traced xs bs l (Refuses k) o t u = same-bytes xs l t
 
 history-traced : (R : Rules) (h : List Call) (xs : List ℕ) (l : Link) → ComeAll IsByte h → Traced xs l → Traced (xs ++ received R l h) (run R l h)
 history-traced R [] xs l x t = same-bytes xs l t

@@ -5,16 +5,17 @@ use mathlib.Core.Path.{_≡_, refl}
 use mathlib.Core.Bool.{Bool, true, false}
 use mathlib.Core.List.{List, [], _∷_}
 use native.Mathlib.Omega.{arith}
-use lib.Dec.{ltb}
 use lib.ListN.{length}
-use borrow.Author.Tests.{ltb-false}
 use Rattle.frame.specs.Frame.{frameOf}
-use Rattle.frame.specs.declared.refusal.Refusal.{Refusal}
 use Rattle.sending.specs.Rules.{Rules}
 use Rattle.sending.specs.Job.{isOpen}
 use Rattle.link.specs.State.{freshLink}
 use Rattle.link.specs.Step.{Out, Taken, byteOut, tickOut, openOut, restartOut, news, runFrom, quiet}
-use Rattle.link.specs.Calls.{Checked, passes, refuses, check, sendChecks, sessionChecks, roomChecks}
+use Rattle.step.specs.Checks.{sendChecks, sessionChecks, roomChecks}
+use Rattle.step.proofs.Passed.{room-passed}
+use Rattle.step.proofs.Passed as checks
+use Rattle.step.specs.declared.checks.Checked.{Checked}
+use Rattle.step.specs.declared.checks.Checked.the-variants.{Passes, Refuses}
 use Rattle.sending.specs.declared.job.Asking.{Asking}
 use Rattle.sending.specs.declared.job.Asking.the-variants.{Plain, Asks}
 use Rattle.link.specs.declared.state.Link.{Link}
@@ -23,41 +24,29 @@ use Rattle.history.specs.History.{next, run, after}
 use Rattle.history.specs.Ranges.{All, Comes, ComeAll}
 use Rattle.history.proofs.Reception.{pick-ok, InTime, byte-steps, tick-steps}
 
--- ---- checks that are passed
-pub passed : (met : Bool) (k : Refusal) (c : Checked) → check met k c ≡ passes → (met ≡ false) × (c ≡ passes)
-passed true k c e = absurd (let z : _≡_ {A = ℕ} 0 1 = cc in omega-no z)
-  where
-    omega-no : _≡_ {A = ℕ} 0 1 → ⊥
-    omega-no z = omega arith
-passed false k c e = (refl, e)
-
-pub room-passed : (line up : ℕ) (c : Checked) → roomChecks line up c ≡ passes → c ≡ passes
-room-passed line up c e = (passed (ltb up 254) _ c ((passed (ltb line 258) _ _ e) .1)) .1
-
 -- an accepted send or session found nothing open, and has at most 252 parameters
 pub record Free (l : Link) (n : ℕ) : Type 0 where
   pub idle : isOpen (l .core .job) ≡ false
   pub fits : n ≤ 252
 
-pub send-passed : (l : Link) (kind n : ℕ) → sendChecks l kind n ≡ passes → Free l n
+pub send-passed : (l : Link) (kind n : ℕ) → sendChecks (l .core .job) kind n ≡ Passes → Free l n
 send-passed l kind n e =
-    let p = passed (isOpen (l .core .job)) _ _ e in
-    let q = passed (ltb 1 kind) _ _ (p .1) in
-    record { idle = p .0; fits = ltb-false 252 n ((passed (ltb 252 n) _ _ (q .1)) .0) }
+    let p = checks.send-passed (l .core .job) kind n e in
+    record { idle = p .0; fits = p .2 }
 
-pub session-passed : (l : Link) (n : ℕ) → sessionChecks l n ≡ passes → Free l n
+pub session-passed : (l : Link) (n : ℕ) → sessionChecks (l .core .job) n ≡ Passes → Free l n
 session-passed l n e =
-    let p = passed (isOpen (l .core .job)) _ _ e in
-    record { idle = p .0; fits = ltb-false 252 n ((passed (ltb 252 n) _ _ (p .1)) .0) }
+    let p = checks.session-passed (l .core .job) n e in
+    record { idle = p .0; fits = p .1 }
 
 -- an accepted call passed its checks, and gave what the link's definitions say
 pub record Accepted (c : Checked) (o o′ : Out) : Type 0 where
-  pub checks : c ≡ passes
+  pub checks : c ≡ Passes
   pub gave : o ≡ o′
 
 pub accepted-is : (c : Checked) (o o′ : Out) → doneBy c o ≡ took o′ → Accepted c o o′
-accepted-is passes o o′ e = record { checks = refl; gave = cc }
-accepted-is (refuses k) o o′ e = record { checks = cc; gave = cc }
+accepted-is Passes o o′ e = record { checks = refl; gave = cc }
+accepted-is (Refuses k) o o′ e = record { checks = cc; gave = cc }
 
 -- ---- a property of links that every accepted call keeps, where the bytes that come are all of a kind B
 pub record Keeps (R : Rules) (B : ℕ → Type 0) (P : Link → Type 0) : Type 0 where
@@ -74,7 +63,7 @@ module _ (R : Rules) (B : ℕ → Type 0) (P : Link → Type 0) (keeps : Keeps R
       let q : P ((byteOut R (o .link) b) .link) = keeps .byte (o .link) b (x .0) p in
       pick-ok (λ (z : Taken). P (z .out .link)) (news (byteOut R (o .link) b)) _ _ q (run-keeps bs (k + 1) (byteOut R (o .link) b) (x .1) q)
 
-  what-keeps : (l : Link) (w : What) → Comes B w → checksOf l w ≡ passes → P l → P ((outOf R l w) .link)
+  what-keeps : (l : Link) (w : What) → Comes B w → checksOf l w ≡ Passes → P l → P ((outOf R l w) .link)
   unfolding restartOut
   what-keeps l (byte b) x e p = keeps .byte l b x p
   what-keeps l (bytes bs) x e p = run-keeps bs 0 (quiet l) x p
@@ -83,16 +72,16 @@ module _ (R : Rules) (B : ℕ → Type 0) (P : Link → Type 0) (keeps : Keeps R
   what-keeps l (session command ps) x e p = keeps .begin l (Asks command) 0 command ps ((session-passed l (length ps) e) .fits) p
   what-keeps l restart x e p = keeps .fresh
 
-  done-keeps : (l : Link) (c : Checked) (o : Out) → P l → (c ≡ passes → P (o .link)) → P (next l (doneBy c o))
-  done-keeps l passes o p q = q refl
-  done-keeps l (refuses k) o p q = p
+  done-keeps : (l : Link) (c : Checked) (o : Out) → P l → (c ≡ Passes → P (o .link)) → P (next l (doneBy c o))
+  done-keeps l Passes o p q = q refl
+  done-keeps l (Refuses k) o p q = p
 
   pub history-keeps : (h : List Call) (l : Link) → ComeAll B h → P l → P (run R l h)
   history-keeps [] l x p = p
   history-keeps (c ∷ h) l x p =
       history-keeps h (next l (perform R l c)) (x .1)
       (done-keeps l (roomChecks (c .line) (c .up) (checksOf l (c .what))) (outOf R l (c .what)) p
-      (λ e. what-keeps l (c .what) (x .0) (room-passed (c .line) (c .up) (checksOf l (c .what)) e) p))
+      (λ e. what-keeps l (c .what) (x .0) (room-passed (c .line) (c .up) (checksOf l (c .what)) e .2) p))
 
   pub after-keeps : (h : List Call) → ComeAll B h → P (after R h)
   after-keeps h x = history-keeps h freshLink x (keeps .fresh)

@@ -11,8 +11,9 @@ use Rattle.frame.specs.Pick.{pick}
 use Rattle.sending.specs.Rules.{Rules, told}
 use Rattle.reception.specs.Hearing.{heardByte, heardTick}
 use Rattle.sending.specs.Job.{still, onSingle, awaits, copiesOf, act}
-use Rattle.link.specs.Report.{replyBytes, saidEnd, saidOn, sumsOn, newsReception, newsSending}
-use Rattle.link.specs.Step.{Out, Taken, out, outcome, decision, decideOn, byteBy, byteOut, tickOut, news, quiet, runFrom, runOut}
+use Rattle.step.specs.Report.{replyBytes, saidEnd, saidOn, sumsOn, newsReception, newsSending}
+use Rattle.step.specs.Step.{outcome, decision, decideOn}
+use Rattle.link.specs.Step.{Out, Taken, out, byteBy, byteOut, tickOut, news, quiet, runFrom, runOut}
 use Rattle.reception.specs.declared.hearing.Hearing.{Hearing}
 use Rattle.reception.specs.declared.hearing.Single.{Single}
 use Rattle.reception.specs.declared.hearing.Single.the-variants.{Ack, Nak, Can}
@@ -26,12 +27,12 @@ use Rattle.sending.specs.declared.job.Asking.{Asking}
 use Rattle.sending.specs.declared.job.Asking.the-variants.{Plain, Asks}
 use Rattle.sending.specs.declared.job.Job.{Job}
 use Rattle.sending.specs.declared.job.Job.the-variants.{Idle, Due, Waiting, BackingOff, Awaiting}
-use Rattle.link.specs.declared.report.Reception.{Reception}
-use Rattle.link.specs.declared.report.Reception.the-variants as reception
-use Rattle.link.specs.declared.report.Reply.{Reply}
-use Rattle.link.specs.declared.report.Reply.the-variants as reply
-use Rattle.link.specs.declared.report.Said.{Said}
-use Rattle.link.specs.declared.report.Sums.{Sums}
+use Rattle.step.specs.declared.report.Reception.{Reception}
+use Rattle.step.specs.declared.report.Reception.the-variants as reception
+use Rattle.step.specs.declared.report.Reply.{Reply}
+use Rattle.step.specs.declared.report.Reply.the-variants as reply
+use Rattle.step.specs.declared.report.Said.{Said}
+use Rattle.step.specs.declared.report.Sums.{Sums}
 use Rattle.link.specs.declared.state.Link.{Link}
 use Rattle.history.specs.Watch.{Verdict, copiesIn, isFailure, Says, none, says, verdictIn, verdictOf}
 use Rattle.history.proofs.Mix.{Mix, end as finish, one, copy, mix-append}

@@ -8,7 +8,9 @@ use Rattle.sending.specs.Rules.{Rules}
 use Rattle.reception.specs.Hearing.{heardByte, heardTick}
 use Rattle.sending.specs.Job.{act, onRestart}
 use Rattle.link.specs.Step.{Out, Taken, byteOut, tickOut, restartOut, news, runFrom, runOut, quiet}
-use Rattle.link.specs.Calls.{Checked, passes, refuses, roomChecks}
+use Rattle.step.specs.Checks.{roomChecks}
+use Rattle.step.specs.declared.checks.Checked.{Checked}
+use Rattle.step.specs.declared.checks.Checked.the-variants.{Passes, Refuses}
 use Rattle.reception.specs.declared.hearing.End.the-variants as end
 use Rattle.reception.specs.declared.hearing.Event.{Event}
 use Rattle.reception.specs.declared.hearing.Event.the-variants.{Inside, Kept, Skipped, Alone, Ended, TickHunting, TickInside, Aborted}
@@ -110,8 +112,8 @@ restart-rests a l = record { verdict = drops-none a (l .core .job); idle = refl 
 -- ---- counting
 done-most : (m : ℕ) (a : Asking) (w : What) (l : Link) (c : Checked) (o : Out) (k : Link → ℕ) → k l ≤ m → countTaken a w o (k (o .link)) ≤ m
     → countDone a w l (doneBy c o) k ≤ m
-done-most m a w l passes o k p q = q
-done-most m a w l (refuses r) o k p q = p
+done-most m a w l Passes o k p q = q
+done-most m a w l (Refuses r) o k p q = p
 
 rests-most : (m n : ℕ) (s : Says) → s ≡ none → n ≤ m → count s + n ≤ m
 rests-most m n s e h = rw e (omega arith)

@@ -7,7 +7,10 @@ use lib.ListN.{length}
 use Rattle.frame.specs.Bytes.{over}
 use Rattle.sending.specs.Rules.{Rules}
 use Rattle.link.specs.Step.{Out, Taken, reportOf, runOut}
-use Rattle.link.specs.Calls.{Checked, passes, refuses, checks, answered, ran, left, Call as CallPromise, Run as RunPromise}
+use Rattle.step.specs.Checks.{checks}
+use Rattle.step.specs.declared.checks.Checked.{Checked}
+use Rattle.step.specs.declared.checks.Checked.the-variants.{Passes, Refuses}
+use Rattle.link.specs.Calls.{answered, ran, left, Call as CallPromise, Run as RunPromise}
 use Rattle.link.specs.declared.calls.Answer.{Answer}
 use Rattle.link.specs.declared.calls.Answer.the-variants as answer
 use Rattle.link.specs.declared.calls.Answered.{Answered}
@@ -36,28 +39,28 @@ upOf (refused k) = []
 upOf (took o) = o .up
 
 next-is : (c : Checked) (o : Out) (l : Link) → (answered c o l) .link ≡ next l (doneBy c o)
-next-is passes o l = refl
-next-is (refuses k) o l = refl
+next-is Passes o l = refl
+next-is (Refuses k) o l = refl
 
 answer-is : (c : Checked) (o : Out) (l : Link) → (answered c o l) .answer ≡ answerOf (doneBy c o)
-answer-is passes o l = refl
-answer-is (refuses k) o l = refl
+answer-is Passes o l = refl
+answer-is (Refuses k) o l = refl
 
 line-is : (c : Checked) (o : Out) (lent : List ℕ) → left c (o .line) lent ≡ over (lineOf (doneBy c o)) lent
-line-is passes o lent = refl
-line-is (refuses k) o lent = refl
+line-is Passes o lent = refl
+line-is (Refuses k) o lent = refl
 
 up-is : (c : Checked) (o : Out) (lent : List ℕ) → left c (o .up) lent ≡ over (upOf (doneBy c o)) lent
-up-is passes o lent = refl
-up-is (refuses k) o lent = refl
+up-is Passes o lent = refl
+up-is (Refuses k) o lent = refl
 
 ran-next : (c : Checked) (t : Taken) (l : Link) → (ran c t l) .link ≡ next l (doneBy c (t .out))
-ran-next passes t l = refl
-ran-next (refuses k) t l = refl
+ran-next Passes t l = refl
+ran-next (Refuses k) t l = refl
 
 ran-answer : (c : Checked) (t : Taken) (l : Link) → (ran c t l) .answer ≡ runAnswerOf (t .taken) (doneBy c (t .out))
-ran-answer passes t l = refl
-ran-answer (refuses k) t l = refl
+ran-answer Passes t l = refl
+ran-answer (Refuses k) t l = refl
 
 pub record Tied (d : Done) (l l′ : Link) (line up line′ up′ : List ℕ) : Type 0 where
   pub link : l′ ≡ next l d
@@ -86,7 +89,7 @@ pub run-tied : (R : Rules) (l : Link) (bs line up : List ℕ) (r : Ran) (line′
     → Tied (perform R l (record { what = bytes bs; line = length line; up = length up })) l (r .link) line up line′ up′
     × (r .answer ≡ runAnswerOf ((runOut R l bs) .taken) (perform R l (record { what = bytes bs; line = length line; up = length up })))
 run-tied R l bs line up r line′ up′ p =
-    let c = checks line up passes in
+    let c = checks line up Passes in
     let t = runOut R l bs in (
       record {
         link = ap (λ (z : Ran). z .link) (p .answer) ∙ ran-next c t l;

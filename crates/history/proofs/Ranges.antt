@@ -15,7 +15,7 @@ use Rattle.frame.proofs.Theorems.{frame-bounds}
 use Rattle.sending.specs.Rules.{Rules, Cause, told, time, base, backOffs}
 use Rattle.reception.specs.Hearing.{heardByte, heardTick, hunted, keep, isHunting}
 use Rattle.sending.specs.Job.{start, lose, onSingle, onTick, onAbort, onEnd, release, awaits, act}
-use Rattle.link.specs.Report.{sumsEnd, sumsOn}
+use Rattle.step.specs.Report.{sumsEnd, sumsOn}
 use Rattle.link.specs.State.{noBody, noFrame}
 use Rattle.link.specs.Step.{Out, byteOut, tickOut, openOut}
 use Rattle.reception.specs.declared.hearing.Hearing.{Hearing}

@@ -12,8 +12,9 @@ use Rattle.frame.specs.Pick.{pick}
 use Rattle.sending.specs.Rules.{Rules}
 use Rattle.reception.specs.Hearing.{heard, heardByte, heardTick, begun, more, ended}
 use Rattle.sending.specs.Job.{nextCopy, putOut, release, awaits, onEnd, onTick, onAbort, act}
-use Rattle.link.specs.Report.{replyBytes, saidEnd, saidOn}
-use Rattle.link.specs.Step.{Out, out, decideOn, byteBy, byteOut, tickOut}
+use Rattle.step.specs.Report.{replyBytes, saidEnd, saidOn}
+use Rattle.step.specs.Step.{decideOn}
+use Rattle.link.specs.Step.{Out, out, byteBy, byteOut, tickOut}
 use Rattle.reception.specs.declared.hearing.Partial.{Partial}
 use Rattle.reception.specs.declared.hearing.Hearing.{Hearing}
 use Rattle.reception.specs.declared.hearing.Hearing.the-variants.{Hunting, Head, Body}
@@ -25,9 +26,9 @@ use Rattle.sending.specs.declared.job.Act.{Act}
 use Rattle.sending.specs.declared.job.Asking.{Asking}
 use Rattle.sending.specs.declared.job.Job.{Job}
 use Rattle.sending.specs.declared.job.Job.the-variants.{Idle, Due, Waiting, BackingOff, Awaiting}
-use Rattle.link.specs.declared.report.Reception.the-variants as reception
-use Rattle.link.specs.declared.report.Reply.{Reply}
-use Rattle.link.specs.declared.report.Reply.the-variants as reply
+use Rattle.step.specs.declared.report.Reception.the-variants as reception
+use Rattle.step.specs.declared.report.Reply.{Reply}
+use Rattle.step.specs.declared.report.Reply.the-variants as reply
 use Rattle.sending.specs.declared.report.Reset.the-variants as reset
 use Rattle.sending.specs.declared.report.Sending.{Sending}
 use Rattle.sending.specs.declared.report.Sending.the-variants as sending
@@ -115,7 +116,7 @@ inside-frame R l b i = in-frame R l b (heardByte b (l .core .hearing)) (inside-b
 -- ---- the clock
 -- "Each tick inside a frame adds 1 to its clock. The tick that makes it 1,501 aborts the frame."
 pub data Ticked (l : Link) (o : Out) : Type 0 where
-  passes : IsInside (o .link .core .hearing) → clockOf (o .link .core .hearing) ≡ clockOf (l .core .hearing) + 1 → clockOf (l .core .hearing) < 1500 → Ticked l o
+  Passes : IsInside (o .link .core .hearing) → clockOf (o .link .core .hearing) ≡ clockOf (l .core .hearing) + 1 → clockOf (l .core .hearing) < 1500 → Ticked l o
   aborts : o .link .core .hearing ≡ Hunting → o .reception ≡ reception.Abort → 1500 ≤ clockOf (l .core .hearing) → Ticked l o
 
 data InsideTick (h : Hearing) : Heard → Type 0 where
@@ -132,7 +133,7 @@ inside-tick (Body p) i =
     (λ e. let v : 1501 ≤ p .clock + 1 = ltb-false _ _ e in over (omega arith))
 
 ticked : (R : Rules) (l : Link) (r : Heard) → InsideTick (l .core .hearing) r → Ticked l (out (l .body) (l .frame) (decideOn R (l .core) r))
-ticked R l r (on i c k) = passes i c k
+ticked R l r (on i c k) = Passes i c k
 ticked R l r (over k) = aborts refl refl k
 
 pub inside-ticks : (R : Rules) (l : Link) → IsInside (l .core .hearing) → Ticked l (tickOut R l)

@@ -10,7 +10,9 @@ use lib.ListN.{length, replicate, length-replicate}
 use Rattle.sending.specs.Rules.{Rules}
 use Rattle.sending.specs.Job.{copiesOf, isOpen}
 use Rattle.link.specs.Step.{Out}
-use Rattle.link.specs.Calls.{Checked, passes, refuses, roomChecks}
+use Rattle.step.specs.Checks.{roomChecks}
+use Rattle.step.specs.declared.checks.Checked.{Checked}
+use Rattle.step.specs.declared.checks.Checked.the-variants.{Passes, Refuses}
 use Rattle.reception.specs.declared.hearing.Hearing.{Hearing}
 use Rattle.sending.specs.declared.job.Asking.{Asking}
 use Rattle.sending.specs.declared.job.Job.{Job}
@@ -23,7 +25,8 @@ use Rattle.history.specs.Demand3.{Kept, IsOver, NotGone}
 use Rattle.history.proofs.Mix.{Mix, end as finish, mix-append, IsFrame, mix-frames}
 use Rattle.history.proofs.Job.{Fits, Good, due, waits, backs, awaiting, left-pos, good-few}
 use Rattle.history.proofs.Links.{Sends, leftOn, Goes, Ends, Outcome, byte-gave, tick-gave, run-gave}
-use Rattle.history.proofs.Histories.{room-passed, send-passed, session-passed, Free}
+use Rattle.history.proofs.Histories.{send-passed, session-passed, Free}
+use Rattle.step.proofs.Passed.{room-passed}
 
 -- no verdict yet: n copies had gone out and L ticks were left at the start of the watch
 pub record Mid (f : List ℕ) (L n t : ℕ) (line : List ℕ) : Type 0 where
@@ -49,9 +52,9 @@ none-free d w = false≢true (sym (w .idle) ∙ is-open (d .good))
 
 -- a call refused or accepted
 done-by : (P : Watch → Type 0) (a : Asking) (w : What) (l : Link) (c : Checked) (o : Out) (k : Link → Watch)
-    → P (k l) → (c ≡ passes → P (watchTaken a w o (k (o .link)))) → P (watchDone a w l (doneBy c o) k)
-done-by P a w l passes o k p q = q refl
-done-by P a w l (refuses r) o k p q = p
+    → P (k l) → (c ≡ Passes → P (watchTaken a w o (k (o .link)))) → P (watchDone a w l (doneBy c o) k)
+done-by P a w l Passes o k p q = q refl
+done-by P a w l (Refuses r) o k p q = p
 
 module _ (R : Rules) (g : ℕ → ℕ) (fit : Fits R g) (f : List ℕ) (a : Asking) where
   abbrev OnWatch : Link → Watch → Type 0
@@ -76,7 +79,7 @@ module _ (R : Rules) (g : ℕ → ℕ) (fit : Fits R g) (f : List ℕ) (a : Aski
   onward-ok none L n t o w c k = add-ok L n t o w c (k (c .sends))
   onward-ok (says v) L n t o w c k = c .0
 
-  taken-ok : (w : What) (l : Link) (k : Link → Watch) → Sends R f a l → checksOf l w ≡ passes → ((z : Link) → Sends R f a z → OnWatch z (k z))
+  taken-ok : (w : What) (l : Link) (k : Link → Watch) → Sends R f a l → checksOf l w ≡ Passes → ((z : Link) → Sends R f a z → OnWatch z (k z))
       → OnWatch l (watchTaken a w (outOf R l w) (k ((outOf R l w) .link)))
   taken-ok (byte b) l k d e i = onward-ok (verdictOf a (outOf R l (byte b))) _ _ 0 _ _ (byte-gave R g fit f a l b d) (i _)
   taken-ok (bytes bs) l k d e i = onward-ok (verdictOf a (outOf R l (bytes bs))) _ _ 0 _ _ (run-gave R g fit f a l bs d) (i _)
@@ -89,7 +92,7 @@ module _ (R : Rules) (g : ℕ → ℕ) (fit : Fits R g) (f : List ℕ) (a : Aski
   watch-ok [] l d = record { soon = left-pos R g fit (l .core .size) (l .core .hearing) (d .good); more = 0; mix = finish; few = omega (arith, good-few (d .good)) }
   watch-ok (c ∷ h) l d =
       done-by (OnWatch l) a (c .what) l (roomChecks (c .line) (c .up) (checksOf l (c .what))) (outOf R l (c .what)) (λ z. watch R a z h) (watch-ok h l d)
-      (λ e. taken-ok (c .what) l (λ z. watch R a z h) d (room-passed (c .line) (c .up) (checksOf l (c .what)) e) (watch-ok h))
+      (λ e. taken-ok (c .what) l (λ z. watch R a z h) d (room-passed (c .line) (c .up) (checksOf l (c .what)) e .2) (watch-ok h))
 
 -- ---- from the bytes' shape to the frames found
 found : {f : List ℕ} {n : ℕ} {l : List ℕ} → IsFrame f → Mix f n l → frames l ≡ replicate n f

@@ -7,7 +7,9 @@ use Rattle.frame.specs.Frame.{frameOf}
 use Rattle.frame.specs.declared.refusal.Refusal.{Refusal}
 use Rattle.sending.specs.Rules.{Rules}
 use Rattle.link.specs.Step.{Out, byteOut, tickOut, openOut, restartOut, runOut}
-use Rattle.link.specs.Calls.{Checked, passes, refuses, roomChecks, sendChecks, sessionChecks}
+use Rattle.step.specs.Checks.{roomChecks, sendChecks, sessionChecks}
+use Rattle.step.specs.declared.checks.Checked.{Checked}
+use Rattle.step.specs.declared.checks.Checked.the-variants.{Passes, Refuses}
 use Rattle.sending.specs.declared.job.Asking.the-variants.{Plain, Asks}
 use Rattle.link.specs.declared.state.Link.{Link}
 
@@ -27,12 +29,12 @@ pub record Call : Type 0 where
 
 -- behind ROOM: send goes on with BUSY, KIND, LONG; session with BUSY, LONG; the others have no other refusal
 abbrev pub checksOf : Link → What → Checked
-checksOf l (byte b) = passes
-checksOf l (bytes bs) = passes
-checksOf l tick = passes
-checksOf l (send kind command ps) = sendChecks l kind (length ps)
-checksOf l (session command ps) = sessionChecks l (length ps)
-checksOf l restart = passes
+checksOf l (byte b) = Passes
+checksOf l (bytes bs) = Passes
+checksOf l tick = Passes
+checksOf l (send kind command ps) = sendChecks (l .core .job) kind (length ps)
+checksOf l (session command ps) = sessionChecks (l .core .job) (length ps)
+checksOf l restart = Passes
 
 -- what the call gives where it is accepted; a run of bytes gives what its last byte taken gave
 abbrev pub outOf : Rules → Link → What → Out
@@ -48,8 +50,8 @@ pub data Done : Type 0 where
   took : Out → Done
 
 abbrev pub doneBy : Checked → Out → Done
-doneBy passes o = took o
-doneBy (refuses k) o = refused k
+doneBy Passes o = took o
+doneBy (Refuses k) o = refused k
 
 -- ROOM first, by the numbers of lent bytes
 abbrev pub perform : Rules → Link → Call → Done

@@ -1,4 +1,3 @@
-pub mod Report
 pub mod State
 pub mod Step
 pub mod Calls

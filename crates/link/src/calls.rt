@@ -1,16 +1,6 @@
 // The public calls of the link (section 3).
-use crate::emit::core_of;
 use crate::emit::emit;
-use crate::emit::put_line;
-use crate::emit::put_up;
-use crate::emit::report_of;
-use crate::report::Report;
 use crate::state::Link;
-use crate::step::decide;
-use crate::step::decide_on;
-use crate::step::decide_tick;
-use crate::step::opening;
-use crate::step::restarting;
 use frame::Refusal;
 use reception::Hearing;
 use reception::hear_byte;
@@ -19,16 +9,31 @@ use reception::hear_tick;
 use reception::is_hunting;
 use reception::keep;
 use sending::Asking;
-use sending::is_open;
+use step::Checked;
+use step::Report;
+use step::core_of;
+use step::decide;
+use step::decide_on;
+use step::decide_tick;
+use step::lacks_room;
+use step::opening;
+use step::put_line;
+use step::put_up;
+use step::report_of;
+use step::restarting;
+use step::send_checks;
+use step::session_checks;
 ghost use mathlib.Core.Path.{_≡_};
 ghost use Prim.Native.Nat.{_≤_};
 ghost use lib.ListN.{length};
 ghost use Rattle.frame.specs.Frame.{frameOf};
 ghost use Rattle.sending.specs.declared.job.Asking.the-variants.{Plain, Asks};
 ghost use Rattle.sending.specs.Rules.{base};
+ghost use Rattle.step.specs.Checks.{sendChecks, sessionChecks};
+ghost use Rattle.step.specs.declared.checks.Checked.the-variants.{Passes};
 ghost use Rattle.link.specs.declared.calls.Answer.the-variants as answer;
 ghost use Rattle.link.specs.Step.{byteOut, tickOut, openOut, restartOut, runOut};
-ghost use Rattle.link.specs.Calls.{Call, Run, Emitted, sendChecks, sessionChecks, passes};
+ghost use Rattle.link.specs.Calls.{Call, Run, Emitted};
 
 pub enum Answer {
     Refused(Refusal),
@@ -91,12 +96,9 @@ fn opened(
 impl Link {
     // One received byte.
     pub fn byte(self, b: u8, line: &mut [u8], up: &mut [u8]) -> Answered
-        ensures { λ r. ⌜ Call passes (byteOut base self b) self (now (line .entry)) (now (up .entry)) r (now (line .exit)) (now (up .exit)) ⌝ }
+        ensures { λ r. ⌜ Call Passes (byteOut base self b) self (now (line .entry)) (now (up .entry)) r (now (line .exit)) (now (up .exit)) ⌝ }
     {
-        if line.len() < 258 {
-            return refused(self, Refusal::Room);
-        }
-        if up.len() < 254 {
+        if lacks_room(line.len(), up.len()) {
             return refused(self, Refusal::Room);
         }
         let core = self.core;
@@ -123,13 +125,7 @@ impl Link {
     pub fn bytes(self, bytes: &[u8], line: &mut [u8], up: &mut [u8]) -> Ran
         ensures { λ r. ⌜ Run (runOut base self (now (bytes .entry))) self (now (line .entry)) (now (up .entry)) r (now (line .exit)) (now (up .exit)) ⌝ }
     {
-        if line.len() < 258 {
-            return Ran {
-                link: self,
-                answer: RunAnswer::Refused(Refusal::Room),
-            };
-        }
-        if up.len() < 254 {
+        if lacks_room(line.len(), up.len()) {
             return Ran {
                 link: self,
                 answer: RunAnswer::Refused(Refusal::Room),
@@ -156,12 +152,9 @@ impl Link {
 
     // One tick: a millisecond has passed.
     pub fn tick(self, line: &mut [u8], up: &mut [u8]) -> Answered
-        ensures { λ r. ⌜ Call passes (tickOut base self) self (now (line .entry)) (now (up .entry)) r (now (line .exit)) (now (up .exit)) ⌝ }
+        ensures { λ r. ⌜ Call Passes (tickOut base self) self (now (line .entry)) (now (up .entry)) r (now (line .exit)) (now (up .exit)) ⌝ }
     {
-        if line.len() < 258 {
-            return refused(self, Refusal::Room);
-        }
-        if up.len() < 254 {
+        if lacks_room(line.len(), up.len()) {
             return refused(self, Refusal::Room);
         }
         let core = self.core;
@@ -183,64 +176,36 @@ impl Link {
         line: &mut [u8],
         up: &mut [u8],
     ) -> Answered
-        ensures { λ r. ⌜ Call (sendChecks self kind (length (now (parameters .entry)))) (openOut self Plain (frameOf kind command (now (parameters .entry)))) self (now (line .entry)) (now (up .entry)) r (now (line .exit)) (now (up .exit)) ⌝ }
+        ensures { λ r. ⌜ Call (sendChecks (self .core .job) kind (length (now (parameters .entry)))) (openOut self Plain (frameOf kind command (now (parameters .entry)))) self (now (line .entry)) (now (up .entry)) r (now (line .exit)) (now (up .exit)) ⌝ }
     {
         let core = self.core;
         let job = core.job;
-        if line.len() < 258 {
-            return refused(self, Refusal::Room);
+        let checked = send_checks(line.len(), up.len(), job, kind, parameters.len());
+        match checked {
+            Checked::Refuses(refusal) => refused(self, refusal),
+            Checked::Passes => { opened(self, Asking::Plain, kind, command, parameters, line) }
         }
-        if up.len() < 254 {
-            return refused(self, Refusal::Room);
-        }
-        if is_open(job) {
-            return refused(self, Refusal::Busy);
-        }
-        if 1 < kind {
-            return refused(self, Refusal::Kind);
-        }
-        if 252 < parameters.len() {
-            return refused(self, Refusal::Long);
-        }
-        opened(self, Asking::Plain, kind, command, parameters, line)
     }
 
     // Sends a request that stays open after its ACK, until its response.
     pub fn session(self, command: u8, parameters: &[u8], line: &mut [u8], up: &mut [u8]) -> Answered
-        ensures { λ r. ⌜ Call (sessionChecks self (length (now (parameters .entry)))) (openOut self (Asks command) (frameOf 0 command (now (parameters .entry)))) self (now (line .entry)) (now (up .entry)) r (now (line .exit)) (now (up .exit)) ⌝ }
+        ensures { λ r. ⌜ Call (sessionChecks (self .core .job) (length (now (parameters .entry)))) (openOut self (Asks command) (frameOf 0 command (now (parameters .entry)))) self (now (line .entry)) (now (up .entry)) r (now (line .exit)) (now (up .exit)) ⌝ }
     {
         let core = self.core;
         let job = core.job;
-        if line.len() < 258 {
-            return refused(self, Refusal::Room);
+        let checked = session_checks(line.len(), up.len(), job, parameters.len());
+        let asking = Asking::Asks { command: command };
+        match checked {
+            Checked::Refuses(refusal) => refused(self, refusal),
+            Checked::Passes => opened(self, asking, 0, command, parameters, line),
         }
-        if up.len() < 254 {
-            return refused(self, Refusal::Room);
-        }
-        if is_open(job) {
-            return refused(self, Refusal::Busy);
-        }
-        if 252 < parameters.len() {
-            return refused(self, Refusal::Long);
-        }
-        opened(
-            self,
-            Asking::Asks { command: command },
-            0,
-            command,
-            parameters,
-            line,
-        )
     }
 
     // A fresh link; 15 is put out, and an open send or session is abandoned.
     pub fn restart(self, line: &mut [u8], up: &mut [u8]) -> Answered
-        ensures { λ r. ⌜ Call passes (restartOut self) self (now (line .entry)) (now (up .entry)) r (now (line .exit)) (now (up .exit)) ⌝ }
+        ensures { λ r. ⌜ Call Passes (restartOut self) self (now (line .entry)) (now (up .entry)) r (now (line .exit)) (now (up .exit)) ⌝ }
     {
-        if line.len() < 258 {
-            return refused(self, Refusal::Room);
-        }
-        if up.len() < 254 {
+        if lacks_room(line.len(), up.len()) {
             return refused(self, Refusal::Room);
         }
         let core = self.core;

@@ -1,14 +1,10 @@
 // The host end of the link (document 01, sections 3 to 7): bytes and ticks go in, bytes and reports come out.
 mod calls;
 mod emit;
-mod report;
 mod state;
-mod step;
 
 pub use calls::Answer;
 pub use calls::Answered;
 pub use calls::Ran;
 pub use calls::RunAnswer;
-pub use report::Reception;
-pub use report::Report;
 pub use state::Link;

@@ -1,19 +1,10 @@
 // The link's state, its timings, and opening.
 use reception::Hearing;
 use sending::Job;
+use step::Core;
 use units::Millis;
 ghost use mathlib.Core.Path.{_≡_};
 ghost use Rattle.link.specs.State.{freshLink};
-
-// The numbers of a link.
-pub struct Core {
-    pub hearing: Hearing,
-    pub job: Job,
-    // The run of bad sums.
-    pub bad: u8,
-    // The length of the held frame.
-    pub size: u16,
-}
 
 // A link comes only from opening or an earlier call: no other crate can make one.
 pub struct Link {
@@ -41,12 +32,7 @@ impl Link {
     pub fn open() -> Self
         ensures { λ r. ⌜ r ≡ freshLink ⌝ }
     {
-        let core = Core {
-            hearing: Hearing::Hunting,
-            job: Job::Idle,
-            bad: 0,
-            size: 0,
-        };
+        let core = Core::fresh();
         Link {
             core: core,
             body: [0; 254],

@@ -6,7 +6,6 @@ use link::Answer;
 use link::Answered;
 use link::Link;
 use link::Ran;
-use link::Report;
 use link::RunAnswer;
 use script::LinkVerb;
 use script::behind;
@@ -21,6 +20,7 @@ use script::put_refused;
 use script::restore;
 use script::spelt_at;
 use script::times_of;
+use step::Report;
 
 // What lasts from call to call.
 pub struct Player {

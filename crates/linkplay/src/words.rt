@@ -1,6 +1,4 @@
 // The words of a report (section 7 of document 01). Each part has a list of words, and each of its values a place in it.
-use link::Reception;
-use link::Report;
 use script::numbered;
 use script::plain;
 use script::put;
@@ -9,6 +7,8 @@ use script::put_one;
 use sending::Reset;
 use sending::Sending;
 use sending::Session;
+use step::Reception;
+use step::Report;
 
 fn put_reception(part: Reception, out: &mut [u8], waiting: usize) -> usize {
     let place = match part {

@@ -16,9 +16,10 @@ use Rattle.frame.specs.Bytes.{over}
 use Rattle.frame.specs.Frame.{frameOf}
 use Rattle.sending.specs.Rules.{Rules, time, base}
 use Rattle.sending.specs.Job.{goesOn, still, putOut, fail, onTick}
-use Rattle.link.specs.Report.{saidOn, sumsOn}
+use Rattle.step.specs.Report.{saidOn, sumsOn}
 use Rattle.link.specs.State.{noBody, noFrame}
-use Rattle.link.specs.Step.{Out, out, outcome, decision, byteOut, tickOut, openOut}
+use Rattle.step.specs.Step.{outcome, decision}
+use Rattle.link.specs.Step.{Out, out, byteOut, tickOut, openOut}
 use Rattle.reception.specs.declared.hearing.Hearing.{Hearing}
 use Rattle.reception.specs.declared.hearing.Hearing.the-variants.{Hunting, Head}
 use Rattle.reception.specs.declared.hearing.Event.{Event}

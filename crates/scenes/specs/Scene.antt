@@ -7,7 +7,7 @@ use Rattle.frame.specs.declared.refusal.Refusal.{Refusal}
 use Rattle.sending.specs.Rules.{Rules}
 use Rattle.link.specs.State.{freshLink}
 use Rattle.link.specs.Step.{news}
-use Rattle.link.specs.declared.report.Reception.{Reception}
+use Rattle.step.specs.declared.report.Reception.{Reception}
 use Rattle.sending.specs.declared.report.Reset.{Reset}
 use Rattle.sending.specs.declared.report.Sending.{Sending}
 use Rattle.sending.specs.declared.report.Session.{Session}

@@ -6,7 +6,8 @@ use native.Mathlib.Omega.{arith}
 use borrow.Author.Needs.{needs}
 use lib.ListN.{length, drop}
 use denote.Ref.{now}
-use Rattle.link.specs.Calls.{checks, passes}
+use Rattle.step.specs.Checks.{checks}
+use Rattle.step.specs.declared.checks.Checked.the-variants.{Passes}
 use Rattle.exports.specs.Feeding.{at, bytesFed}
 use Rattle.exports.proofs.Feeds.{bytes-on, bytes-end}
 use Rattle.exports.proofs.runs.fed.Statement.{statement}
@@ -17,7 +18,7 @@ Inv-loop input line₀ up₀ link₀ sum₀ i₀ line up link sum i =
     (i ≤ length input)
     × (length line ≡ length line₀)
     × (length up ≡ length up₀)
-    × (bytesFed (checks line₀ up₀ passes) (at link₀ line₀ up₀ sum₀) input ≡ bytesFed (checks line₀ up₀ passes) (at link line up sum) (drop i input))
+    × (bytesFed (checks line₀ up₀ Passes) (at link₀ line₀ up₀ sum₀) input ≡ bytesFed (checks line₀ up₀ Passes) (at link line up sum) (drop i input))
 
 abbrev μ-loop : tie.MeasureT-loop
 μ-loop input line₀ up₀ link₀ sum₀ i₀ line up link sum i = length input - i

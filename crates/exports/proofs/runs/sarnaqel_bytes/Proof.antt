@@ -2,7 +2,8 @@
 -- Assumes nothing.
 use mathlib.Core.Path.{sym, ap, _∙_}
 use denote.Ref.{now}
-use Rattle.link.specs.Calls.{checks, passes}
+use Rattle.step.specs.Checks.{checks}
+use Rattle.step.specs.declared.checks.Checked.the-variants.{Passes}
 use Rattle.link.specs.declared.state.Link.{Link}
 use Rattle.exports.specs.Feeding.{at, bytesFed}
 use Rattle.exports.proofs.Feeds.{ended}
@@ -26,7 +27,7 @@ returns : tie.Need-returns
 returns c =
     let a = c .before .before .before .before .before .before .before .before .before .before .before .args in
     ended _ _ _ _ _
-    (ap (λ (x : Link). bytesFed (checks (now (a .line)) (now (a .up)) passes) (at x (now (a .line)) (now (a .up)) 0) (now (a .input))) (sym (c .before .before .before .before .before .before .before .«open» .ensures))
+    (ap (λ (x : Link). bytesFed (checks (now (a .line)) (now (a .up)) Passes) (at x (now (a .line)) (now (a .up)) 0) (now (a .input))) (sym (c .before .before .before .before .before .before .before .«open» .ensures))
     ∙ c .before .before .before .before .fed .ensures)
 
 pub sarnaqel-bytes-spec : {M : Type 1} → statement M

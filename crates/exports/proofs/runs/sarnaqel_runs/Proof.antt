@@ -7,7 +7,8 @@ use native.Mathlib.Omega.{arith}
 use borrow.Author.Needs.{needs}
 use lib.ListN.{length, drop}
 use denote.Ref.{now}
-use Rattle.link.specs.Calls.{checks, passes}
+use Rattle.step.specs.Checks.{checks}
+use Rattle.step.specs.declared.checks.Checked.the-variants.{Passes}
 use Rattle.link.specs.declared.state.Link.{Link}
 use Rattle.exports.specs.Feeding.{runsFed}
 use Rattle.exports.proofs.Feeds.{ended}
@@ -22,7 +23,7 @@ Inv-loop input most line₀ up₀ link₀ sum₀ at₀ line up link sum at =
     × (length up ≡ length up₀)
     × (fuel : ℕ)
     × (length input - at ≤ fuel)
-    × (runsFed (length input) (checks line₀ up₀ passes) most (fed link₀ line₀ up₀ sum₀) input ≡ runsFed fuel (checks line₀ up₀ passes) most (fed link line up sum) (drop at input))
+    × (runsFed (length input) (checks line₀ up₀ Passes) most (fed link₀ line₀ up₀ sum₀) input ≡ runsFed fuel (checks line₀ up₀ Passes) most (fed link line up sum) (drop at input))
 
 abbrev μ-loop : tie.MeasureT-loop
 μ-loop input most line₀ up₀ link₀ sum₀ at₀ line up link sum at = length input - at
@@ -73,7 +74,7 @@ returns : tie.Need-returns Inv-loop μ-loop
 returns c =
     let l = c .before .before .before .before .before .before .before .before .before .before .before .before .before .before .before .loop in
     let a = c .before .before .before .before .before .before .before .before .before .before .before .before .before .before .before .before .before .before .before .before .args in
-    let start = ap (λ (x : Link). runsFed (length (now (a .input))) (checks (now (a .line)) (now (a .up)) passes) (a .most) (fed x (now (a .line)) (now (a .up)) 0) (now (a .input))) (sym (c .before .before .before .before .before .before .before .before .before .before .before .before .before .before .before .before .«open» .ensures)) in
+    let start = ap (λ (x : Link). runsFed (length (now (a .input))) (checks (now (a .line)) (now (a .up)) Passes) (a .most) (fed x (now (a .line)) (now (a .up)) 0) (now (a .input))) (sym (c .before .before .before .before .before .before .before .before .before .before .before .before .before .before .before .before .«open» .ensures)) in
     ended _ _ _ _ _
     (start ∙ l .inv .5
     ∙ runs-stop (now (a .line)) (now (a .up)) (a .most) (now (a .input)) (l .link) (l .line) (l .up) (l .sum) (l .at) _ _ _ _ _ _ _ _
@@ -123,7 +124,7 @@ returns-2 : tie.Need-returns-2 Inv-loop μ-loop
 returns-2 c =
     let l = c .before .loop in
     let a = c .before .before .before .before .before .before .args in
-    let start = ap (λ (x : Link). runsFed (length (now (a .input))) (checks (now (a .line)) (now (a .up)) passes) (a .most) (fed x (now (a .line)) (now (a .up)) 0) (now (a .input))) (sym (c .before .before .«open» .ensures)) in
+    let start = ap (λ (x : Link). runsFed (length (now (a .input))) (checks (now (a .line)) (now (a .up)) Passes) (a .most) (fed x (now (a .line)) (now (a .up)) 0) (now (a .input))) (sym (c .before .before .«open» .ensures)) in
     ended _ (l .link) (l .line) (l .up) (l .sum)
     (start ∙ l .inv .5
     ∙ runs-end (now (a .line)) (now (a .up)) (a .most) (now (a .input)) (l .link) (l .line) (l .up) (l .sum) (l .at) (l .inv .3) (c .loop-test .left))

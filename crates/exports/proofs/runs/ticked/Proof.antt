@@ -6,7 +6,8 @@ use native.Mathlib.Omega.{arith}
 use borrow.Author.Needs.{needs}
 use lib.ListN.{length}
 use denote.Ref.{now}
-use Rattle.link.specs.Calls.{checks, passes}
+use Rattle.step.specs.Checks.{checks}
+use Rattle.step.specs.declared.checks.Checked.the-variants.{Passes}
 use Rattle.exports.specs.Feeding.{at, ticksFed}
 use Rattle.exports.proofs.Feeds.{ticks-start, ticks-on, ticks-end, ended}
 use Rattle.exports.proofs.runs.ticked.Statement.{statement}
@@ -17,7 +18,7 @@ Inv-loop n line₀ up₀ link₀ sum₀ i₀ line up link sum i =
     (i ≤ n)
     × (length line ≡ length line₀)
     × (length up ≡ length up₀)
-    × (ticksFed (checks line₀ up₀ passes) (at link₀ line₀ up₀ sum₀) n ≡ ticksFed (checks line₀ up₀ passes) (at link line up sum) (n - i))
+    × (ticksFed (checks line₀ up₀ Passes) (at link₀ line₀ up₀ sum₀) n ≡ ticksFed (checks line₀ up₀ Passes) (at link line up sum) (n - i))
 
 abbrev μ-loop : tie.MeasureT-loop
 μ-loop n line₀ up₀ link₀ sum₀ i₀ line up link sum i = n - i

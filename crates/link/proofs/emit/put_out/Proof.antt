@@ -3,12 +3,12 @@
 use mathlib.Core.Path.{sym, ap, _∙_}
 use mathlib.Core.List.{List, append-nil}
 use Prim.Native.Nat.{ℕ}
-use native.Mathlib.Omega.{arith}
 use lib.ListN.{length}
 use denote.Ref.{now}
 use Rattle.frame.specs.Bytes.{over}
-use Rattle.link.specs.Report.{replyBytes}
-use Rattle.link.proofs.Puts.{reply-short}
+use Rattle.step.specs.Report.{replyBytes}
+use Rattle.step.proofs.Puts.{byte-fits, line-in}
+use Rattle.link.proofs.Sizes.{sizes}
 use borrow.Author.Needs.{needs}
 use Rattle.link.proofs.emit.put_out.Statement.{statement}
 use Rattle.link.proofs.emit.put_out.Tie as tie
@@ -23,24 +23,22 @@ same-length : tie.Need-same-length
 same-length c = search needs
 
 returns : tie.Need-returns
-returns c = search needs
+returns c =
+    let z = sizes (c .before .before .before .before .before .before .before .before .args .link) _ (c .before .before .before .before .before .before .before .before .good .0) in
+    line-in (c .before .before .put-line .ensures) (z .1) (c .before .before .before .before .before .before .before .before .pre)
 
 put-reply-requires : tie.Need-put-reply-requires
 put-reply-requires c κs = search needs
-
-cast-result : tie.Need-cast-result
-cast-result c = omega (arith, c .before .before .put-reply .ensures .0, reply-short (c .before .before .before .before .before .before .args .outcome .reply))
 
 same-length-2 : tie.Need-same-length-2
 same-length-2 c = search needs
 
 returns-2 : tie.Need-returns-2
 returns-2 c =
-    let st = c .before .before .before .before .before .before in
-    let put = c .before .before .put-reply .ensures in
-    let e = sym (append-nil (replyBytes (st .args .outcome .reply))) in
-    simp (c .before .before .before .before .if1 .left)
-    (record { count = put .0 ∙ ap length e; left = put .1 ∙ ap (λ (bs : List ℕ). over bs (now (st .args .line))) e })
+    let a = c .before .before .before .before .before .before .args in
+    let put = simp (byte-fits (now (a .line)) (c .before .before .before .before .before .before .pre)) at (c .before .before .put-reply .ensures) in
+    let e = sym (append-nil (replyBytes (a .outcome .reply))) in
+    simp (c .before .before .before .before .if1 .left) (record { count = put .count ∙ ap length e; left = put .left ∙ ap (λ (bs : List ℕ). over bs (now (a .line))) e })
 
 pub put-out-spec : {M : Type 1} → statement M
 put-out-spec =
@@ -51,6 +49,5 @@ put-out-spec =
     same-length
     returns
     put-reply-requires
-    cast-result
     same-length-2
     returns-2)

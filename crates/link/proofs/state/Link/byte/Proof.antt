@@ -1,35 +1,31 @@
 -- `link::state::Link::byte` meets its contract.
 -- Assumes nothing.
-use mathlib.Core.Path.{_∙_}
+use mathlib.Core.Path.{sym, _∙_}
+use lib.ListN.{length}
 use denote.Ref.{now}
 use Rattle.sending.specs.Rules.{base}
+use Rattle.step.specs.declared.checks.Checked.the-variants.{Passes}
+use Rattle.step.proofs.Passed.{has-room}
+use Rattle.step.proofs.Puts.{line-in, up-in}
 use Rattle.link.specs.Step.{byteOut}
-use Rattle.link.specs.Calls.{passes}
 use Rattle.link.proofs.Sizes.{sizes}
-use Rattle.link.proofs.Ways.{short-line, short-up, roomy, refuse, give}
+use Rattle.link.proofs.Ways.{short, roomy, refuse, give}
 use borrow.Author.Needs.{needs}
 use Rattle.link.proofs.state.Link.byte.Statement.{statement}
 use Rattle.link.proofs.state.Link.byte.Tie as tie
+
+lacks-room-requires : tie.Need-lacks-room-requires
+lacks-room-requires c κs = search needs
 
 refused-requires : tie.Need-refused-requires
 refused-requires c κs = search needs
 
 returns : tie.Need-returns
 returns c =
-    let a = c .before .before .before .before .args in
-    let line = now (a .line) in
-    let up = now (a .up) in
-    refuse passes (byteOut base (a .self) (a .b)) (a .self) line up (short-line line up passes (c .before .if1 .taken)) (c .refused .ensures)
-
-refused-requires-2 : tie.Need-refused-requires-2
-refused-requires-2 c κs = search needs
-
-returns-2 : tie.Need-returns-2
-returns-2 c =
     let a = c .before .before .before .before .before .args in
     let line = now (a .line) in
     let up = now (a .up) in
-    refuse passes (byteOut base (a .self) (a .b)) (a .self) line up (short-up line up passes (c .before .before .if1 .left) (c .before .if2 .taken)) (c .refused2 .ensures)
+    refuse Passes (byteOut base (a .self) (a .b)) (a .self) line up (short line up Passes (sym (c .before .before .lacks-room .ensures) ∙ c .before .if1 .taken)) (c .refused .ensures)
 
 hear-byte-requires : tie.Need-hear-byte-requires
 hear-byte-requires c κs = search needs
@@ -58,20 +54,21 @@ same-length c = search needs
 same-length-2 : tie.Need-same-length-2
 same-length-2 c = search needs
 
-returns-3 : tie.Need-returns-3
+returns-2 : tie.Need-returns-2
 unfolding byteOut
-returns-3 c =
-    let st = c .before .before .before .before .before .before .before .before .before .before .before .before .before .before .before .before .before .before .before .before .before .before .before .before .before in
-    let a = st .args in
+returns-2 c =
+    let a = c .before .before .before .before .before .before .before .before .before .before .before .before .before .before .before .before .before .before .before .before .before .before .before .before .before .args in
     let line = now (a .line) in
     let up = now (a .up) in
-    let z = sizes (a .self) _ (st .good .0) in
+    let z = sizes (a .self) _ (c .before .before .before .before .before .before .before .before .before .before .before .before .before .before .before .before .before .before .before .before .before .before .before .before .before .good .0) in
+    let r = sym (c .before .before .before .before .before .before .before .before .before .before .before .before .before .before .before .before .before .before .before .before .before .before .lacks-room .ensures) ∙ c .before .before .before .before .before .before .before .before .before .before .before .before .before .before .before .before .before .before .before .before .before .if1 .left in
+    let w = has-room (length line) (length up) r in
     let h = c .before .before .before .before .before .before .before .before .before .before .before .before .before .before .before .before .before .before .before .hear-byte .ensures in
     let d = c .before .before .before .before .before .before .before .before .before .before .before .before .before .before .before .before .before .before .decide-on .ensures in
     let k = c .before .before .before .before .before .before .before .before .before .before .before .before .before .before .before .before .keep .ensures (z .0) in
-    let l = c .before .before .before .before .before .before .before .before .before .before .before .put-line .ensures in
-    let u = c .before .before .before .before .put-up .ensures in
-    give passes (byteOut base (a .self) (a .b)) (a .self) line up (roomy line up passes (c .before .before .before .before .before .before .before .before .before .before .before .before .before .before .before .before .before .before .before .before .before .before .if1 .left) (c .before .before .before .before .before .before .before .before .before .before .before .before .before .before .before .before .before .before .before .before .before .if2 .left))
+    let l = line-in (c .before .before .before .before .before .before .before .before .before .before .before .put-line .ensures) (z .1) (w .0) in
+    let u = up-in (c .before .before .before .before .put-up .ensures) (c .before .before .before .before .before .before .put-up-arg2 .given .0) (w .1) in
+    give Passes (byteOut base (a .self) (a .b)) (a .self) line up (roomy line up Passes r)
     (simp (c .core-of .ensures, c .before .report-of .ensures, l .count, u .count, k, d, h))
     (l .left ∙ simp (d, h)) (u .left ∙ simp (k, d, h))
 
@@ -79,10 +76,9 @@ pub byte-spec : {M : Type 1} → statement M
 byte-spec =
     tie.close
     (tie.spec
+    lacks-room-requires
     refused-requires
     returns
-    refused-requires-2
-    returns-2
     hear-byte-requires
     decide-on-requires
     keep-requires
@@ -92,4 +88,4 @@ byte-spec =
     core-of-requires
     same-length
     same-length-2
-    returns-3)
+    returns-2)

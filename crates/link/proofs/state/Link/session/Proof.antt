@@ -1,92 +1,68 @@
 -- `link::state::Link::session` meets its contract.
 -- Assumes nothing.
 use mathlib.Core.Path.{refl, sym, _∙_}
-use denote.Ref.{now}
-use borrow.Author.Tests.{lt-ltb, le-ltb}
+use native.Mathlib.Omega.{arith}
 use lib.ListN.{length}
+use denote.Ref.{now}
 use Rattle.frame.specs.Frame.{frameOf}
 use Rattle.sending.specs.declared.job.Asking.the-variants.{Asks}
+use Rattle.step.specs.Checks.{sessionChecks}
+use Rattle.step.proofs.Passed.{room-passed, session-passed}
 use Rattle.link.specs.Step.{openOut}
-use Rattle.link.specs.Calls.{sessionChecks}
-use Rattle.link.proofs.Ways.{short-line, short-up, roomy, refuse, accept}
+use Rattle.link.proofs.Ways.{refuse, accept}
 use borrow.Author.Needs.{needs}
 use Rattle.link.proofs.state.Link.session.Statement.{statement}
 use Rattle.link.proofs.state.Link.session.Tie as tie
 
+session-checks-requires : tie.Need-session-checks-requires
+session-checks-requires c κs = search needs
+
+enum-known-checked : tie.Need-enum-known-checked
+enum-known-checked c = search needs
+
 refused-requires : tie.Need-refused-requires
 refused-requires c κs = search needs
 
+enum-told : tie.Need-enum-told
+enum-told c = search needs
+
+opened-requires : tie.Need-opened-requires
+opened-requires c κs =
+    let a = c .before .before .before .before .before .before .before .before .args in
+    let line = now (a .line) in
+    let up = now (a .up) in
+    let ps = now (a .parameters) in
+    let r = room-passed (length line) (length up) (sessionChecks (a .self .core .job) (length ps)) (sym (c .before .before .before .session-checks .ensures) ∙ c .before .enum-told .given .1) in
+    (r .0, omega arith, session-passed (a .self .core .job) (length ps) (r .2) .1)
+
 returns : tie.Need-returns
 returns c =
-    let a = c .before .before .before .before .before .before .args in
-    let line = now (a .line) in
-    let up = now (a .up) in
-    let own = sessionChecks (a .self) (length (now (a .parameters))) in
-    refuse own (openOut (a .self) (Asks (a .command)) (frameOf 0 (a .command) (now (a .parameters)))) (a .self) line up (short-line line up own (c .before .if1 .taken)) (c .refused .ensures)
-
-refused-requires-2 : tie.Need-refused-requires-2
-refused-requires-2 c κs = search needs
-
-returns-2 : tie.Need-returns-2
-returns-2 c =
-    let a = c .before .before .before .before .before .before .before .args in
-    let line = now (a .line) in
-    let up = now (a .up) in
-    let own = sessionChecks (a .self) (length (now (a .parameters))) in
-    refuse own (openOut (a .self) (Asks (a .command)) (frameOf 0 (a .command) (now (a .parameters)))) (a .self) line up (short-up line up own (c .before .before .if1 .left) (c .before .if2 .taken)) (c .refused2 .ensures)
-
-is-open-requires : tie.Need-is-open-requires
-is-open-requires c κs = search needs
-
-refused-requires-3 : tie.Need-refused-requires-3
-refused-requires-3 c κs = search needs
-
-returns-3 : tie.Need-returns-3
-returns-3 c =
     let a = c .before .before .before .before .before .before .before .before .before .args in
     let line = now (a .line) in
     let up = now (a .up) in
-    let own = sessionChecks (a .self) (length (now (a .parameters))) in
-    refuse own (openOut (a .self) (Asks (a .command)) (frameOf 0 (a .command) (now (a .parameters)))) (a .self) line up (roomy line up own (c .before .before .before .before .if1 .left) (c .before .before .before .if2 .left) ∙ simp (sym (c .before .before .is-open .ensures) ∙ c .before .if3 .taken)) (c .refused3 .ensures)
-
-refused-requires-4 : tie.Need-refused-requires-4
-refused-requires-4 c κs = search needs
-
-returns-4 : tie.Need-returns-4
-returns-4 c =
-    let a = c .before .before .before .before .before .before .before .before .before .before .args in
-    let line = now (a .line) in
-    let up = now (a .up) in
-    let own = sessionChecks (a .self) (length (now (a .parameters))) in
-    refuse own (openOut (a .self) (Asks (a .command)) (frameOf 0 (a .command) (now (a .parameters)))) (a .self) line up (roomy line up own (c .before .before .before .before .before .if1 .left) (c .before .before .before .before .if2 .left) ∙ simp (sym (c .before .before .before .is-open .ensures) ∙ c .before .before .if3 .left, lt-ltb _ _ (c .before .if4 .taken))) (c .refused4 .ensures)
-
-opened-requires : tie.Need-opened-requires
-opened-requires c κs = search needs
+    let ps = now (a .parameters) in
+    refuse (sessionChecks (a .self .core .job) (length ps)) (openOut (a .self) (Asks (a .command)) (frameOf 0 (a .command) ps)) (a .self) line up (sym (c .before .before .before .before .session-checks .ensures) ∙ c .before .before .checked .given .1) (c .refused .ensures)
 
 same-length : tie.Need-same-length
 same-length c = search needs
 
-returns-5 : tie.Need-returns-5
-returns-5 c =
-    let a = c .before .before .before .before .before .before .before .before .before .before .before .before .before .args in
+returns-2 : tie.Need-returns-2
+returns-2 c =
+    let a = c .before .before .before .before .before .before .before .before .before .before .before .args in
     let line = now (a .line) in
     let up = now (a .up) in
-    let own = sessionChecks (a .self) (length (now (a .parameters))) in
-    accept own (openOut (a .self) (Asks (a .command)) (frameOf 0 (a .command) (now (a .parameters)))) (a .self) line up (c .before .before .before .before .before .before .before .before .if1 .left) (c .before .before .before .before .before .before .before .if2 .left) (simp (sym (c .before .before .before .before .before .before .is-open .ensures) ∙ c .before .before .before .before .before .if3 .left, le-ltb _ _ (c .before .before .before .before .if4 .left))) refl (c .before .before .opened .ensures)
+    let ps = now (a .parameters) in
+    accept (sessionChecks (a .self .core .job) (length ps)) (openOut (a .self) (Asks (a .command)) (frameOf 0 (a .command) ps)) (a .self) line up (sym (c .before .before .before .before .before .before .session-checks .ensures) ∙ c .before .before .before .before .enum-told .given .1) refl (c .before .before .opened .ensures)
 
 pub session-spec : {M : Type 1} → statement M
 session-spec =
     tie.close
     (tie.spec
+    session-checks-requires
+    enum-known-checked
     refused-requires
-    returns
-    refused-requires-2
-    returns-2
-    is-open-requires
-    refused-requires-3
-    returns-3
-    refused-requires-4
-    returns-4
+    enum-told
     opened-requires
+    returns
     same-length
-    returns-5)
+    returns-2)

@@ -1,0 +1,36 @@
+-- With no job open: what `decide` may leave out.
+-- Assumes nothing.
+use mathlib.Core.Path.{_≡_, refl}
+use mathlib.Core.Bool.{false}
+use Rattle.reception.specs.declared.hearing.End.{End}
+use Rattle.reception.specs.declared.hearing.End.the-variants as end
+use Rattle.reception.proofs.Turns.{no}
+use Rattle.sending.specs.declared.job.Job.{Job}
+use Rattle.sending.specs.declared.job.Job.the-variants.{Idle, Due, Waiting, BackingOff, Awaiting}
+use Rattle.sending.specs.declared.report.Reset.{Reset}
+use Rattle.sending.specs.declared.report.Reset.the-variants as reset
+use Rattle.sending.specs.declared.report.Sending.the-variants as sending
+use Rattle.sending.specs.Job.{goesOn, isOpen, onEnd}
+use Rattle.step.specs.Report.{either}
+
+-- with no job open no reset is the sender's
+pub either-none : (x : Reset) → either x reset.Nothing ≡ x
+either-none reset.Nothing = refl
+either-none reset.Sums = refl
+either-none reset.Delivery = refl
+
+-- a job that is not open is idle
+pub idle-of : (j : Job) → isOpen j ≡ false → j ≡ Idle
+idle-of Idle h = refl
+idle-of (Due a n) h = absurd (no h)
+idle-of (Waiting a n e) h = absurd (no h)
+idle-of (BackingOff a n l) h = absurd (no h)
+idle-of (Awaiting c n e) h = absurd (no h)
+
+-- nor is a frame's end
+pub idle-ended : (e : End) → onEnd e Idle ≡ goesOn Idle sending.Nothing
+idle-ended end.BadLength = refl
+idle-ended end.BadSum = refl
+idle-ended end.Reserved = refl
+idle-ended (end.Request size) = refl
+idle-ended (end.Response size command) = refl

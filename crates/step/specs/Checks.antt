@@ -1,0 +1,36 @@
+-- Section 3, link calls: their checks in order.
+-- Assumes nothing.
+use Prim.Native.Nat.{ℕ}
+use mathlib.Core.Bool.{Bool, true}
+use mathlib.Core.List.{List}
+use lib.Dec.{ltb}
+use lib.ListN.{length}
+use Rattle.frame.specs.Pick.{pick}
+use Rattle.frame.specs.declared.refusal.Refusal.{Refusal}
+use Rattle.frame.specs.declared.refusal.Refusal.the-variants.{Room, Busy, Kind, Long}
+use Rattle.sending.specs.Job.{isOpen}
+use Rattle.sending.specs.declared.job.Job.{Job}
+use Rattle.step.specs.declared.checks.Checked.{Checked}
+use Rattle.step.specs.declared.checks.Checked.the-variants.{Passes, Refuses}
+
+-- Checks run in the order given for each call; the first that is met refuses.
+abbrev pub check : Bool → Refusal → Checked → Checked
+check met refusal rest = pick met (Refuses refusal) rest
+
+-- ROOM first, needing 258 bytes for the line and 254 for the frame handed up; then the call's own checks.
+abbrev pub lacksRoom : ℕ → ℕ → Bool
+lacksRoom line up = pick (ltb line 258) true (ltb up 254)
+
+abbrev pub roomChecks : ℕ → ℕ → Checked → Checked
+roomChecks line up own = check (lacksRoom line up) Room own
+
+-- by the lent buffers
+abbrev pub checks : List ℕ → List ℕ → Checked → Checked
+checks line up own = roomChecks (length line) (length up) own
+
+-- Send goes on with BUSY, KIND, LONG; session, which is always REQ, with BUSY, LONG.
+abbrev pub sendChecks : Job → ℕ → ℕ → Checked
+sendChecks j kind n = check (isOpen j) Busy (check (ltb 1 kind) Kind (check (ltb 252 n) Long Passes))
+
+abbrev pub sessionChecks : Job → ℕ → Checked
+sessionChecks j n = check (isOpen j) Busy (check (ltb 252 n) Long Passes)

@@ -1,0 +1,5 @@
+pub mod Report
+pub mod State
+pub mod Step
+pub mod Checks
+pub mod Writing

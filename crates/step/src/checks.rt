@@ -1,0 +1,56 @@
+// The checks of the link calls (section 3), in their order: the first that is met refuses.
+use frame::Refusal;
+use sending::Job;
+use sending::is_open;
+ghost use mathlib.Core.Path.{_≡_};
+ghost use Rattle.step.specs.Checks.{lacksRoom, roomChecks, sendChecks, sessionChecks};
+
+pub enum Checked {
+    Passes,
+    Refuses(Refusal),
+}
+
+// Whether the lent buffers, of so many bytes, are too short for what a call can put out and hand up.
+pub fn lacks_room(line: usize, up: usize) -> bool
+    ensures { λ r. ⌜ r ≡ lacksRoom line up ⌝ }
+{
+    if line < 258 {
+        return true;
+    }
+    up < 254
+}
+
+// A send's, for so many parameters.
+pub fn send_checks(line: usize, up: usize, job: Job, kind: u8, n: usize) -> Checked
+    ensures { λ r. ⌜ r ≡ roomChecks line up (sendChecks job kind n) ⌝ }
+{
+    if lacks_room(line, up) {
+        return Checked::Refuses(Refusal::Room);
+    }
+    if is_open(job) {
+        return Checked::Refuses(Refusal::Busy);
+    }
+    if 1 < kind {
+        return Checked::Refuses(Refusal::Kind);
+    }
+    if 252 < n {
+        return Checked::Refuses(Refusal::Long);
+    }
+    Checked::Passes
+}
+
+// A session's, which is always a request.
+pub fn session_checks(line: usize, up: usize, job: Job, n: usize) -> Checked
+    ensures { λ r. ⌜ r ≡ roomChecks line up (sessionChecks job n) ⌝ }
+{
+    if lacks_room(line, up) {
+        return Checked::Refuses(Refusal::Room);
+    }
+    if is_open(job) {
+        return Checked::Refuses(Refusal::Busy);
+    }
+    if 252 < n {
+        return Checked::Refuses(Refusal::Long);
+    }
+    Checked::Passes
+}

@@ -1,0 +1,208 @@
+// One step of the link, on numbers alone: what reception says of an event, the run of bad sums, and the job's act on it.
+// Hearing is no part of it: that way it stays in registers while a call decides.
+use crate::report::Reception;
+use crate::report::Reply;
+use crate::report::Report;
+use crate::report::Said;
+use crate::report::Sums;
+use crate::report::either;
+use crate::report::run_of;
+use crate::report::said_on;
+use crate::report::saying;
+use crate::report::sums_on;
+use crate::state::Core;
+use reception::Event;
+use reception::Hearing;
+use sending::Act;
+use sending::Asking;
+use sending::Job;
+use sending::Reset;
+use sending::Sending;
+use sending::Session;
+use sending::is_open;
+use sending::on_abort;
+use sending::on_event;
+use sending::on_restart;
+use sending::on_tick;
+use sending::start;
+ghost use mathlib.Core.Path.{_≡_};
+ghost use Prim.Native.Nat.{ℕ};
+ghost use Rattle.sending.specs.Rules.{base};
+ghost use Rattle.sending.specs.Job as jobs;
+ghost use Rattle.sending.specs.declared.job.Job.the-variants as job;
+ghost use Rattle.step.specs.Step as spec;
+ghost use Rattle.step.specs.declared.report.Reception.the-variants as reception;
+
+// What a call decides, before a lent byte is written; hearing and the held frame's length stand beside it.
+pub struct Outcome {
+    pub job: Job,
+    // The run of bad sums.
+    pub bad: u8,
+    pub reception: Reception,
+    pub sending: Sending,
+    pub session: Session,
+    pub reset: Reset,
+    // The single byte put out, and whether a copy follows it.
+    pub reply: Reply,
+    pub copy: bool,
+    // The number of body bytes handed up.
+    pub up: u8,
+}
+
+fn decided(said: Said, sums: Sums, act: Act) -> Outcome
+    ensures { λ r. ⌜ r ≡ spec.outcome said sums act ⌝ }
+{
+    let job = act.job;
+    let reception = said.reception;
+    let sending = act.sending;
+    let session = act.session;
+    let reply = said.reply;
+    let bad_sums = sums.reset;
+    let delivery = act.reset;
+    let reset = either(bad_sums, delivery);
+    Outcome {
+        job: job,
+        bad: sums.bad,
+        reception: reception,
+        sending: sending,
+        session: session,
+        reset: reset,
+        reply: reply,
+        copy: act.copy,
+        up: said.up,
+    }
+}
+
+// A byte: reception first, then the sender and the session.
+pub fn decide_on(job: Job, bad: u8, size: u16, event: Event) -> Outcome
+    ensures { λ r. ⌜ r ≡ spec.outcomeOn base size event job bad ⌝ }
+{
+    let said = said_on(event, job);
+    let sums = sums_on(event, bad);
+    let act = on_event(size, event, job);
+    decided(said, sums, act)
+}
+
+// With no job open, 06, 15 and 18 are stray, and nothing else concerns the sender.
+fn stray_on(event: Event) -> Sending
+    ensures { λ r. ⌜ ((size : ℕ) → jobs.act base size event job.Idle ≡ jobs.goesOn job.Idle r) ⌝ }
+{
+    match event {
+        Event::Alone(_) => Sending::Stray,
+        _ => Sending::Nothing,
+    }
+}
+
+// The same as `decide_on` with no job open: short, and what a run of bytes mostly meets.
+fn decide_idle(bad: u8, event: Event) -> Outcome
+    ensures { λ r. ⌜ ((size : ℕ) → r ≡ spec.outcomeOn base size event job.Idle bad) ⌝ }
+{
+    let said = said_on(event, Job::Idle);
+    let sums = sums_on(event, bad);
+    let sending = stray_on(event);
+    let reception = said.reception;
+    let reply = said.reply;
+    let reset = sums.reset;
+    Outcome {
+        job: Job::Idle,
+        bad: sums.bad,
+        reception: reception,
+        sending: sending,
+        session: Session::Nothing,
+        reset: reset,
+        reply: reply,
+        copy: false,
+        up: said.up,
+    }
+}
+
+// The same by whether a job is open.
+pub fn decide(job: Job, bad: u8, size: u16, event: Event) -> Outcome
+    ensures { λ r. ⌜ r ≡ spec.outcomeOn base size event job bad ⌝ }
+{
+    if is_open(job) {
+        return decide_on(job, bad, size, event);
+    }
+    decide_idle(bad, event)
+}
+
+// An act with which reception has this much to say, and no byte of its own.
+fn told(reception: Reception, bad: u8, act: Act) -> Outcome
+    ensures { λ r. ⌜ r ≡ spec.told reception bad act ⌝ }
+{
+    let said = saying(reception, Reply::Silent, 0);
+    let sums = run_of(bad, Reset::Nothing);
+    decided(said, sums, act)
+}
+
+// A tick, by what it was to hearing. (Of hearing a tick, no event of a byte comes.)
+pub fn decide_tick(job: Job, bad: u8, size: u16, event: Event) -> Outcome
+    ensures { λ r. ⌜ r ≡ spec.outcomeOn base size event job bad ⌝ }
+{
+    match event {
+        Event::TickHunting => told(Reception::Nothing, bad, on_tick(size, true, job)),
+        Event::TickInside => told(Reception::Nothing, bad, on_tick(size, false, job)),
+        Event::Aborted => told(Reception::Abort, bad, on_abort(size, job)),
+        _ => decide_on(job, bad, size, event),
+    }
+}
+
+// An accepted send or session: copy 1 goes out if hunting, else it is due.
+pub fn opening(hunting: bool, asking: Asking, bad: u8) -> Outcome
+    ensures { λ r. ⌜ r ≡ spec.told reception.Nothing bad (jobs.start hunting asking 0) ⌝ }
+{
+    let act = start(hunting, asking, 0);
+    told(Reception::Nothing, bad, act)
+}
+
+// Restart: 15 is put out, and an open send or session is abandoned.
+pub fn restarting(job: Job) -> Outcome
+    ensures { λ r. ⌜ r ≡ spec.restarting (jobs.onRestart job) ⌝ }
+{
+    let act = on_restart(job);
+    let sending = act.sending;
+    let session = act.session;
+    let fresh = Job::Idle;
+    Outcome {
+        job: fresh,
+        bad: 0,
+        reception: Reception::Nothing,
+        sending: sending,
+        session: session,
+        reset: Reset::Nothing,
+        reply: Reply::Nak,
+        copy: false,
+        up: 0,
+    }
+}
+
+// The report of an outcome, with the numbers of bytes written.
+pub fn report_of(outcome: Outcome, line: u16, up: u16) -> Report
+    ensures { λ r. ⌜ r ≡ spec.reported outcome line up ⌝ }
+{
+    let reception = outcome.reception;
+    let sending = outcome.sending;
+    let session = outcome.session;
+    let reset = outcome.reset;
+    Report {
+        reception: reception,
+        sending: sending,
+        session: session,
+        reset: reset,
+        line: line,
+        up: up,
+    }
+}
+
+// The numbers of the next link.
+pub fn core_of(outcome: Outcome, hearing: Hearing, size: u16) -> Core
+    ensures { λ r. ⌜ r ≡ spec.decision hearing size outcome .core ⌝ }
+{
+    let job = outcome.job;
+    Core {
+        hearing: hearing,
+        job: job,
+        bad: outcome.bad,
+        size: size,
+    }
+}
