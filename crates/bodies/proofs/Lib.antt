@@ -1,6 +1,0 @@
-pub mod Masks
-pub mod Layouts
-pub mod Lists
-pub mod Setting
-pub mod Marked
-pub mod Theorems

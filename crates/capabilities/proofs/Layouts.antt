@@ -1,0 +1,25 @@
+-- What a body of the layout is known to have.
+-- Assumes nothing.
+use mathlib.Core.Path.{_≡_}
+use mathlib.Core.Bool.{true}
+use mathlib.Core.List.{List}
+use Prim.Native.Nat.{ℕ}
+use lib.Dec.{ltb}
+use lib.ListN.{length}
+use borrow.Author.Tests.{ltb-false}
+use Rattle.masks.specs.Response.{answers}
+use Rattle.masks.specs.Mask.{marks}
+use Rattle.masks.proofs.Layouts.{both, neither}
+use Rattle.capabilities.specs.Capabilities.{isCapabilities, functionMask, OfCapabilities, answerOf, capabilitiesOf}
+
+pub of-capabilities : (body : List ℕ) → isCapabilities body ≡ true → OfCapabilities body
+of-capabilities body e =
+    let a = both (answers body 7) e .1 in
+    let b = neither (ltb (length body) 10) a in
+    let c = neither (ltb 42 (length body)) (b .1) in
+    let d = neither (marks (functionMask body) 256) (c .1) in
+    record { least = ltb-false (length body) 10 (b .0); most = ltb-false 42 (length body) (c .0); clear = d .0 }
+
+-- what a body of its layout gives
+pub capabilities-yes : (body : List ℕ) → isCapabilities body ≡ true → capabilitiesOf body ≡ answerOf body
+capabilities-yes body e = rw e

@@ -1,0 +1,75 @@
+-- Section 8, Capabilities RES (002, 7.3): 8 fixed bytes, then 0 to 32 mask bytes. The bit for 256 must be 0.
+-- Assumes nothing.
+use Prim.Native.Nat.{ℕ, _+_, _*_, _≤_}
+use mathlib.Core.Path.{_≡_}
+use mathlib.Core.Bool.{Bool, true, false}
+use mathlib.Core.List.{List, [], _∷_}
+use lib.Dec.{ltb}
+use lib.ListN.{length, getD, drop}
+use Rattle.frame.specs.Pick.{pick}
+use Rattle.frame.specs.Refusals.{numberOf}
+use Rattle.frame.specs.declared.refusal.Refusal.the-variants as refusal
+use Rattle.masks.specs.Response.{answers}
+use Rattle.masks.specs.Mask.{marks, marked}
+use Rattle.capabilities.specs.declared.Capabilities.{Capabilities}
+use Rattle.capabilities.specs.declared.Capabilities.the-variants as capabilities
+use Rattle.capabilities.specs.declared.Support.{Support}
+use Rattle.capabilities.specs.declared.Support.the-variants as support
+
+-- a number of two bytes, most significant first
+abbrev pub word : ℕ → ℕ → ℕ
+word high low = high * 256 + low
+
+-- behind Type, Command and the 8 fixed bytes
+abbrev pub functionMask : List ℕ → List ℕ
+functionMask body = drop 10 body
+
+abbrev pub isCapabilities : List ℕ → Bool
+isCapabilities body =
+    pick (answers body 7)
+    (pick (ltb (length body) 10) false
+    (pick (ltb 42 (length body)) false
+    (pick (marks (functionMask body) 256) false true)))
+    false
+
+-- what the layout says of a body
+pub record OfCapabilities (body : List ℕ) : Type 0 where
+  pub least : 10 ≤ length body
+  pub most : length body ≤ 42
+  pub clear : marks (functionMask body) 256 ≡ false
+
+-- the number of supported functions
+abbrev pub supported : List ℕ → ℕ
+supported body = length (marked (functionMask body) 255)
+
+-- the eight fixed bytes: version, revision, then manufacturer, product type and product id as numbers of two bytes
+abbrev pub answerOf : List ℕ → Capabilities
+answerOf body =
+    capabilities.Answer
+    (getD body 2 0)
+    (getD body 3 0)
+    (word (getD body 4 0) (getD body 5 0))
+    (word (getD body 6 0) (getD body 7 0))
+    (word (getD body 8 0) (getD body 9 0))
+    (supported body)
+
+-- the number of the refusal; of an answer 0 and its values
+abbrev pub capabilitiesTold : Capabilities → List ℕ
+capabilitiesTold (capabilities.Refused k) = numberOf k ∷ []
+capabilitiesTold (capabilities.Answer v r m t i n) = 0 ∷ v ∷ r ∷ m ∷ t ∷ i ∷ n ∷ []
+
+abbrev pub capabilitiesOf : List ℕ → Capabilities
+capabilitiesOf body = pick (isCapabilities body) (answerOf body) (capabilities.Refused refusal.Form)
+
+-- the number of the refusal; 0, and 1 for supported
+abbrev pub supportTold : Support → List ℕ
+supportTold (support.Refused k) = numberOf k ∷ []
+supportTold support.Supported = 0 ∷ 1 ∷ []
+supportTold support.Unsupported = 0 ∷ 0 ∷ []
+
+-- one function of a body
+abbrev pub supportOf : List ℕ → ℕ → Support
+supportOf body f =
+    pick (isCapabilities body)
+    (pick (marks (functionMask body) f) support.Supported support.Unsupported)
+    (support.Refused refusal.Form)

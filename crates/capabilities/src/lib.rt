@@ -1,0 +1,106 @@
+// Capabilities RES, command 07 (002, 7.3).
+use frame::Refusal;
+use masks::is_marked;
+use masks::is_response;
+ghost use mathlib.Core.Path.{_≡_};
+ghost use Prim.Native.Nat.{_≤_};
+ghost use lib.ListN.{length};
+ghost use Rattle.masks.specs.Mask.{onesIn};
+ghost use Rattle.capabilities.specs.Capabilities.{word, isCapabilities, OfCapabilities, answerOf, capabilitiesOf, supportOf};
+
+pub enum Capabilities {
+    Refused(Refusal),
+    // The last is the number of supported functions.
+    Answer {
+        version: u8,
+        revision: u8,
+        manufacturer: u16,
+        product_type: u16,
+        product_id: u16,
+        supported: u16,
+    },
+}
+
+pub enum Support {
+    Refused(Refusal),
+    Supported,
+    Unsupported,
+}
+
+// A number of two bytes, most significant first.
+fn joined(high: u8, low: u8) -> u16
+    ensures { λ r. ⌜ r ≡ word high low ⌝ }
+{
+    high as u16 * 256 + low as u16
+}
+
+// The number of one bits of a mask of at most 32 bytes.
+fn ones(mask: &[u8]) -> u16
+    requires { ⌜ length (now mask) ≤ 32 ⌝ }
+    ensures { λ r. ⌜ r ≡ onesIn (now (mask .entry)) ⌝ }
+{
+    let mut n: u16 = 0;
+    let mut i = 0;
+    while i < mask.len() {
+        n += u8::count_ones(mask[i]) as u16;
+        i += 1;
+    }
+    n
+}
+
+// Whether the body is of the layout.
+fn is_capabilities(body: &[u8]) -> bool
+    ensures { λ r. ⌜ r ≡ isCapabilities (now (body .entry)) ⌝ }
+{
+    if !is_response(body, 7) {
+        return false;
+    }
+    if body.len() < 10 {
+        return false;
+    }
+    if 42 < body.len() {
+        return false;
+    }
+    if is_marked(&body[10..], 256) {
+        return false;
+    }
+    true
+}
+
+// The answer to a body of the layout.
+fn answer(body: &[u8]) -> Capabilities
+    requires { ⌜ OfCapabilities (now body) ⌝ }
+    ensures { λ r. ⌜ r ≡ answerOf (now (body .entry)) ⌝ }
+{
+    Capabilities::Answer {
+        version: body[2],
+        revision: body[3],
+        manufacturer: joined(body[4], body[5]),
+        product_type: joined(body[6], body[7]),
+        product_id: joined(body[8], body[9]),
+        supported: ones(&body[10..]),
+    }
+}
+
+// Reads the whole body.
+pub fn read_capabilities(body: &[u8]) -> Capabilities
+    ensures { λ r. ⌜ r ≡ capabilitiesOf (now (body .entry)) ⌝ }
+{
+    if !is_capabilities(body) {
+        return Capabilities::Refused(Refusal::Form);
+    }
+    answer(body)
+}
+
+// Reads one function of the body.
+pub fn supports(body: &[u8], f: u8) -> Support
+    ensures { λ r. ⌜ r ≡ supportOf (now (body .entry)) f ⌝ }
+{
+    if !is_capabilities(body) {
+        return Support::Refused(Refusal::Form);
+    }
+    if is_marked(&body[10..], f as u16) {
+        return Support::Supported;
+    }
+    Support::Unsupported
+}

@@ -1,0 +1,46 @@
+-- What layouts share: the part of a body from a place on, and tests one after the other.
+-- Assumes nothing.
+use mathlib.Core.Path.{_≡_, refl, sym, ap, _∙_}
+use mathlib.Core.Bool.{Bool, true, false}
+use mathlib.Core.List.{List}
+use Prim.Native.Nat.{ℕ, _≤_, _<_, _+_, _-_}
+use lib.Dec.{eqb}
+use lib.ListN.{length, getD, take, drop, length-drop}
+use lib.Seq.{take-all, getD-drop}
+use native.Mathlib.Nat.{le-of-eq}
+use borrow.Author.Tests.{le-ltb, eq-eqb}
+use native.Mathlib.Omega.{arith}
+use Rattle.frame.specs.Pick.{pick}
+use Rattle.frame.proofs.Picks.{picked-first, picked-second}
+use Rattle.masks.specs.Response.{answers}
+use Rattle.masks.specs.Mask.{marks}
+
+-- bytes are bytes from n on
+pub bytes-from : (n : ℕ) (body : List ℕ) → ((i : ℕ) → getD body i 0 < 256) → (i : ℕ) → getD (drop n body) i 0 < 256
+bytes-from n body bytes i = rw (getD-drop n body i 0) (bytes (n + i))
+
+-- the part of a body from n on
+pub rest : (n : ℕ) (body : List ℕ) → take (length body - n) (drop n body) ≡ drop n body
+rest n body = take-all (length body - n) (drop n body) (le-of-eq (length-drop n body))
+
+no : false ≡ true → ⊥
+no e = let z : _≡_ {A = ℕ} 0 1 = cc in omega arith
+
+pub marks-rest : (n : ℕ) (body : List ℕ) (f : ℕ) {t : Bool} → marks (take (length body - n) (drop n body)) f ≡ t → marks (drop n body) f ≡ t
+marks-rest n body f e = ap (λ (mask : List ℕ). marks mask f) (sym (rest n body)) ∙ e
+
+-- a test that must hold, and what follows
+pub both : (t : Bool) {a : Bool} → pick t a false ≡ true → (t ≡ true) × (a ≡ true)
+both t = picked-first t no
+
+-- a test that must not hold, and what follows
+pub neither : (t : Bool) {a : Bool} → pick t false a ≡ true → (t ≡ false) × (a ≡ true)
+neither t = picked-second t no
+
+pub answers-by : (body : List ℕ) (command : ℕ) → 2 ≤ length body → getD body 0 0 ≡ 1 → answers body command ≡ eqb (getD body 1 0) command
+answers-by body command h e = simp (le-ltb (length body) 2 h, eq-eqb (getD body 0 0) 1 e)
+
+-- a function of what a test picks is picked among its values
+pub through : {A B : Type 0} (f : A → B) (t : Bool) (x y : A) → f (pick t x y) ≡ pick t (f x) (f y)
+through f true x y = refl
+through f false x y = refl

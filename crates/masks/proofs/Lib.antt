@@ -1,0 +1,4 @@
+pub mod Layouts
+pub mod Masks
+pub mod Marked
+pub mod Theorems

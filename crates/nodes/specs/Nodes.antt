@@ -1,0 +1,79 @@
+-- Section 8, Node list RES (002, 7.4): version, capabilities, 29, 29 mask bytes, chip type, chip version; or with 0 for 29 and no mask.
+-- Assumes nothing.
+use Prim.Native.Nat.{ℕ, _+_, _≤_}
+use mathlib.Core.Path.{_≡_}
+use mathlib.Core.Bool.{Bool, false}
+use mathlib.Core.List.{List, [], _∷_}
+use lib.Dec.{ltb, eqb}
+use lib.ListN.{length, getD, take, drop}
+use Rattle.frame.specs.Pick.{pick}
+use Rattle.frame.specs.Bytes.{over}
+use Rattle.frame.specs.Refusals.{numberOf}
+use Rattle.frame.specs.declared.refusal.Refusal.the-variants as refusal
+use Rattle.masks.specs.Response.{answers}
+use Rattle.masks.specs.Mask.{marked}
+use Rattle.nodes.specs.declared.NodeList.{NodeList}
+use Rattle.nodes.specs.declared.NodeList.the-variants.{Refused, Answer}
+
+-- with Type and Command 36 bytes, or 7 with no mask
+abbrev pub isNodeList : List ℕ → Bool
+isNodeList body =
+    pick (answers body 2)
+    (pick (eqb (length body) 36)
+    (eqb (getD body 4 0) 29)
+    (pick (eqb (length body) 7)
+    (eqb (getD body 4 0) 0)
+    false))
+    false
+
+-- the mask, of so many bytes
+abbrev pub nodeMask : List ℕ → List ℕ
+nodeMask body = take (getD body 4 0) (drop 5 body)
+
+-- node k, 1 to 232, stands as a function does; nodes are listed in rising order
+abbrev pub nodesOf : List ℕ → List ℕ
+nodesOf body = marked (nodeMask body) 232
+
+abbrev pub nodeAnswer : List ℕ → NodeList
+nodeAnswer body =
+    Answer
+    (getD body 2 0)
+    (getD body 3 0)
+    (length (nodesOf body))
+    (getD body (getD body 4 0 + 5) 0)
+    (getD body (getD body 4 0 + 6) 0)
+
+-- the number of the refusal; of an answer 0 and its values
+abbrev pub nodesTold : NodeList → List ℕ
+nodesTold (Refused k) = numberOf k ∷ []
+nodesTold (Answer v c n t u) = 0 ∷ v ∷ c ∷ n ∷ t ∷ u ∷ []
+
+-- ROOM before FORM; the list needs room for 232
+abbrev pub nodeListOf : List ℕ → ℕ → NodeList
+nodeListOf body room =
+    pick (ltb room 232) (Refused refusal.Room)
+    (pick (isNodeList body) (nodeAnswer body) (Refused refusal.Form))
+
+-- the lent list after the call
+abbrev pub leftBy : NodeList → List ℕ → List ℕ → List ℕ
+leftBy (Refused k) nodes lent = lent
+leftBy (Answer v c n t u) nodes lent = over nodes lent
+
+pub record Listed (body lent : List ℕ) (r : NodeList) (lent′ : List ℕ) : Type 0 where
+  pub answer : r ≡ nodeListOf body (length lent)
+  pub left : lent′ ≡ leftBy (nodeListOf body (length lent)) (nodesOf body) lent
+
+-- what the layouts say of a body
+pub record OfNodeList (body : List ℕ) : Type 0 where
+  pub few : getD body 4 0 ≤ 29
+  pub size : length body ≡ getD body 4 0 + 7
+
+-- what is answered and written of a body of one of the layouts
+pub record Filled (body lent : List ℕ) (r : NodeList) (lent′ : List ℕ) : Type 0 where
+  pub answer : r ≡ nodeAnswer body
+  pub left : lent′ ≡ over (nodesOf body) lent
+
+-- what the loop over a mask writes and answers
+pub record Written (mask lent : List ℕ) (n : ℕ) (lent′ : List ℕ) : Type 0 where
+  pub count : n ≡ length (marked mask 232)
+  pub left : lent′ ≡ over (marked mask 232) lent

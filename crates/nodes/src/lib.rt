@@ -1,0 +1,82 @@
+// Node list RES, command 02 (002, 7.4).
+use frame::Refusal;
+use masks::is_marked;
+use masks::is_response;
+ghost use mathlib.Core.Path.{_≡_};
+ghost use Prim.Native.Nat.{_≤_};
+ghost use lib.ListN.{length};
+ghost use Rattle.nodes.specs.Nodes.{isNodeList, OfNodeList, Filled, Listed, Written};
+
+pub enum NodeList {
+    Refused(Refusal),
+    // The nodes are the first `count` bytes of the lent list.
+    Answer {
+        version: u8,
+        capabilities: u8,
+        count: u8,
+        chip_type: u8,
+        chip_version: u8,
+    },
+}
+
+// Whether the body is of one of the two layouts.
+fn is_node_list(body: &[u8]) -> bool
+    ensures { λ r. ⌜ r ≡ isNodeList (now (body .entry)) ⌝ }
+{
+    if !is_response(body, 2) {
+        return false;
+    }
+    if body.len() == 36 {
+        return body[4] == 29;
+    }
+    if body.len() == 7 {
+        return body[4] == 0;
+    }
+    false
+}
+
+// Writes the nodes that the mask marks over the first bytes of the list, and answers how many they are.
+fn list_nodes(mask: &[u8], list: &mut [u8]) -> u8
+    requires { ⌜ 232 ≤ length (now list) ⌝ }
+    ensures { λ r. ⌜ Written (now (mask .entry)) (now (list .entry)) r (now (list .exit)) ⌝ }
+{
+    let mut n: u8 = 0;
+    let mut k: u8 = 0;
+    while k < 232 {
+        k += 1;
+        if is_marked(mask, k as u16) {
+            list[n as usize] = k;
+            n += 1;
+        }
+    }
+    n
+}
+
+// Lists the nodes of a body of one of the layouts.
+fn fill(body: &[u8], list: &mut [u8]) -> NodeList
+    requires { ⌜ (232 ≤ length (now list)) × OfNodeList (now body) ⌝ }
+    ensures { λ r. ⌜ Filled (now (body .entry)) (now (list .entry)) r (now (list .exit)) ⌝ }
+{
+    let end = body[4] as usize + 5;
+    let count = list_nodes(&body[5..end], list);
+    NodeList::Answer {
+        version: body[2],
+        capabilities: body[3],
+        count: count,
+        chip_type: body[end],
+        chip_version: body[end + 1],
+    }
+}
+
+// Reads the whole body, and lists its nodes. Bytes of the list beyond them stay; a refusal leaves all of them.
+pub fn read_nodes(body: &[u8], list: &mut [u8]) -> NodeList
+    ensures { λ r. ⌜ Listed (now (body .entry)) (now (list .entry)) r (now (list .exit)) ⌝ }
+{
+    if list.len() < 232 {
+        return NodeList::Refused(Refusal::Room);
+    }
+    if !is_node_list(body) {
+        return NodeList::Refused(Refusal::Form);
+    }
+    fill(body, list)
+}

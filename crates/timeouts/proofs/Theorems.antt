@@ -1,0 +1,111 @@
+-- What holds of the timeouts and of the promises of this crate, over all inputs (document 01, sections 3, 8, 10 and 12).
+-- Assumes nothing.
+use mathlib.Core.Path.{_≡_, refl, sym, ap, ap₂, _∙_}
+use mathlib.Core.List.{List, [], _∷_}
+use Prim.Native.Nat.{ℕ}
+use native.Mathlib.Omega.{arith}
+use lib.ListN.{length, take, drop, replicate}
+use lib.Dec.{ltb}
+use Rattle.frame.specs.Pick.{pick}
+use Rattle.frame.specs.Bytes.{xorAll}
+use Rattle.frame.specs.Frame.{frameOf}
+use Rattle.frame.specs.Builder.{Build}
+use Rattle.frame.specs.Reader.{readingOf, parametersOf}
+use Rattle.frame.specs.declared.refusal.Refusal.{Refusal}
+use Rattle.frame.specs.declared.refusal.Refusal.the-variants as refusal
+use Rattle.frame.specs.declared.builder.Built.{Built}
+use Rattle.frame.specs.declared.builder.Built.the-variants as built
+use Rattle.frame.specs.declared.reader.Reading.the-variants.{Parts}
+use Rattle.frame.proofs.Theorems.{fixed, build-reads, build-accepts}
+use Rattle.units.specs.Units.{convertedOf}
+use Rattle.units.specs.declared.Millis.{Millis}
+use Rattle.units.specs.declared.Ticks10.{Ticks10}
+use Rattle.units.specs.declared.Converted.{Converted}
+use Rattle.units.specs.declared.Converted.the-variants as converted
+use Rattle.units.proofs.Theorems.{millis-back}
+use Rattle.timeouts.specs.Timeouts.{setOf, setTold, SetTimeouts, isOldTimeouts, timeAt, oldTold, oldTimeoutsOf}
+use Rattle.timeouts.specs.declared.OldTimeouts.{OldTimeouts}
+use Rattle.timeouts.specs.declared.OldTimeouts.the-variants as old
+use Rattle.masks.proofs.Layouts.{through}
+use Rattle.timeouts.proofs.Setting.{set-answer, set-left}
+
+-- ---- Section 12: each promise determines its answer and every lent byte after the call, refusals too
+
+pub set-timeouts-determined : {rxack rxbyte : Millis} {lent : List ℕ} {r q : Built} {l m : List ℕ}
+    → SetTimeouts rxack rxbyte lent r l → SetTimeouts rxack rxbyte lent q m → (r ≡ q) × (l ≡ m)
+set-timeouts-determined a b = (fixed (a .answer) (b .answer), fixed (a .left) (b .left))
+
+pub read-timeouts-determined : (body : List ℕ) {r q : OldTimeouts} → r ≡ oldTimeoutsOf body → q ≡ oldTimeoutsOf body → r ≡ q
+read-timeouts-determined body = fixed
+
+-- ---- timeouts
+
+module _ (rxack rxbyte : Millis) (a b : Ticks10) (p : convertedOf rxack ≡ converted.Ticks a) (q : convertedOf rxbyte ≡ converted.Ticks b) where
+  -- the frame is the one that `build` gives for REQ 06 with the two numbers of ticks
+  pub set-builds : (lent : List ℕ) (r : Built) (lent′ : List ℕ) → SetTimeouts rxack rxbyte lent r lent′ → Build 0 6 (a .0 ∷ b .0 ∷ []) lent r lent′
+  set-builds lent r lent′ s = record {
+    answer = s .answer ∙ set-answer rxack rxbyte lent (converted.Ticks a) (converted.Ticks b) p q;
+    left = s .left ∙ set-left rxack rxbyte lent (converted.Ticks a) (converted.Ticks b) p q;
+  }
+
+  -- its RES with the same ticks is answered as the same times
+  pub timeouts-back : oldTimeoutsOf (1 ∷ 6 ∷ a .0 ∷ b .0 ∷ []) ≡ old.Were rxack rxbyte
+  timeouts-back = ap₂ (λ (x y : Millis). old.Were x y) (millis-back rxack a p .0) (millis-back rxbyte b q .0)
+
+-- what was written for two times, read back
+pub record ReadsBack (rxack rxbyte : Millis) (lent : List ℕ) (m : ℕ) (lent′ : List ℕ) : Type 0 where
+  pub size : m ≡ 7
+  pub parts : readingOf (take m lent′) ≡ Parts 0 6 2
+  pub first : timeAt (parametersOf (take m lent′) 2) 0 ≡ rxack
+  pub second : timeAt (parametersOf (take m lent′) 2) 1 ≡ rxbyte
+  pub beyond : drop m lent′ ≡ drop m lent
+
+-- a frame that was written reads as REQ 06 with the two times; bytes beyond it stay
+pub set-reads : (rxack rxbyte : Millis) (lent : List ℕ) (m : ℕ) (lent′ : List ℕ) → SetTimeouts rxack rxbyte lent (built.Frame m) lent′
+    → ReadsBack rxack rxbyte lent m lent′
+set-reads rxack rxbyte lent m lent′ s = by (convertedOf rxack) (convertedOf rxbyte) refl refl
+  where
+    no : built.Frame m ≡ built.Refused refusal.Range → ReadsBack rxack rxbyte lent m lent′
+    no e = let z : _≡_ {A = ℕ} 0 1 = cc in absurd (omega arith)
+
+    by : (x y : Converted) → convertedOf rxack ≡ x → convertedOf rxbyte ≡ y → ReadsBack rxack rxbyte lent m lent′
+    by (converted.Refused k) y p q = no (s .answer ∙ set-answer rxack rxbyte lent (converted.Refused k) y p q)
+    by (converted.Ticks a) (converted.Refused k) p q = no (s .answer ∙ set-answer rxack rxbyte lent (converted.Ticks a) (converted.Refused k) p q)
+    by (converted.Ticks a) (converted.Ticks b) p q =
+        let built = set-builds rxack rxbyte a b p q lent (built.Frame m) lent′ s in
+        let reads = build-reads 0 6 (a .0 ∷ b .0 ∷ []) lent m lent′ built in
+        record {
+          size = build-accepts 0 2 (length lent) m (sym (built .answer)) .3;
+          parts = reads .0;
+          first = ap (λ (ps : List ℕ). timeAt ps 0) (reads .1) ∙ millis-back rxack a p .0;
+          second = ap (λ (ps : List ℕ). timeAt ps 1) (reads .1) ∙ millis-back rxbyte b q .0;
+          beyond = reads .2;
+        }
+
+-- ---- Section 3: the number of each refusal alone, and 0 with the values of each answer
+
+pub timeouts-told : (body : List ℕ)
+    → oldTold (oldTimeoutsOf body) ≡ pick (isOldTimeouts body) (0 ∷ timeAt body 2 .0 ∷ timeAt body 3 .0 ∷ []) (10 ∷ [])
+timeouts-told body = through oldTold (isOldTimeouts body) (old.Were (timeAt body 2) (timeAt body 3)) (old.Refused refusal.Form)
+
+-- RANGE, then ROOM
+pub set-range : (k : Refusal) (a : Ticks10) (y : Converted) (room : ℕ)
+    → (setTold (setOf (converted.Refused k) y room) ≡ 11 ∷ []) × (setTold (setOf (converted.Ticks a) (converted.Refused k) room) ≡ 11 ∷ [])
+set-range k a y room = (refl, refl)
+
+pub set-room : (a b : Ticks10) (room : ℕ) → setTold (setOf (converted.Ticks a) (converted.Ticks b) room) ≡ pick (ltb room 7) (1 ∷ []) (0 ∷ 7 ∷ [])
+set-room a b room = through setTold (ltb room 7) (built.Refused refusal.Room) (built.Frame 7)
+
+-- ---- Section 10
+
+-- REQ 06 with 96 0F (1,500 and 150 ms)
+pub timeouts-example : (r : Built) (lent′ : List ℕ) → SetTimeouts (record { 0 = 1500 }) (record { 0 = 150 }) (replicate 7 0) r lent′
+    → (r ≡ built.Frame 7) × (lent′ ≡ 1 ∷ 5 ∷ 0 ∷ 6 ∷ 150 ∷ 15 ∷ 101 ∷ [])
+unfolding frameOf xorAll
+timeouts-example r lent′ s = (s .answer, s .left)
+
+-- 2,550 ms is 255; 2,560 and 1,505 are RANGE
+pub range-edges : (setOf (convertedOf (record { 0 = 2550 })) (convertedOf (record { 0 = 2550 })) 7 ≡ built.Frame 7)
+    × (setOf (convertedOf (record { 0 = 2560 })) (convertedOf (record { 0 = 150 })) 7 ≡ built.Refused refusal.Range)
+    × (setOf (convertedOf (record { 0 = 150 })) (convertedOf (record { 0 = 1505 })) 7 ≡ built.Refused refusal.Range)
+range-edges = (refl, refl, refl)
