@@ -1,6 +1,6 @@
 -- What a body of the layout is known to have.
 -- Assumes nothing.
-use mathlib.Core.Path.{_≡_}
+use mathlib.Core.Path.{_≡_, ap₂, _∙_}
 use mathlib.Core.Bool.{true}
 use mathlib.Core.List.{List}
 use Prim.Native.Nat.{ℕ}
@@ -11,6 +11,7 @@ use Rattle.masks.specs.Response.{answers}
 use Rattle.masks.specs.Mask.{marks}
 use Rattle.masks.proofs.Layouts.{both, neither}
 use Rattle.capabilities.specs.Capabilities.{isCapabilities, functionMask, OfCapabilities, answerOf, capabilitiesOf}
+use Rattle.capabilities.specs.declared.Capabilities.the-variants.{Answer}
 
 pub of-capabilities : (body : List ℕ) → isCapabilities body ≡ true → OfCapabilities body
 of-capabilities body e =
@@ -23,3 +24,8 @@ of-capabilities body e =
 -- what a body of its layout gives
 pub capabilities-yes : (body : List ℕ) → isCapabilities body ≡ true → capabilitiesOf body ≡ answerOf body
 capabilities-yes body e = rw e
+
+-- an answer, by its numbers of two bytes and its count
+pub answer-by : {v r m m′ t t′ i i′ n n′ : ℕ} → m ≡ m′ → t ≡ t′ → i ≡ i′ → n ≡ n′ → Answer v r m t i n ≡ Answer v r m′ t′ i′ n′
+answer-by {v} {r} {m} {m′} {t} {t′} {i} {i′} {n} {n′} p q s u =
+    ap₂ (λ (x y : ℕ). Answer v r x y i n) p q ∙ ap₂ (λ (x y : ℕ). Answer v r m′ t′ x y) s u

@@ -9,6 +9,7 @@ use Rattle.masks.specs.Mask.{onesIn}
 use Rattle.capabilities.specs.Capabilities.{functionMask, supported}
 use Rattle.masks.proofs.Layouts.{rest, bytes-from}
 use Rattle.masks.proofs.Masks.{ones-supported}
+use Rattle.capabilities.proofs.Layouts.{answer-by}
 use borrow.Author.Needs.{needs}
 use Rattle.capabilities.proofs.answer.Statement.{statement}
 use Rattle.capabilities.proofs.answer.Tie as tie
@@ -66,7 +67,11 @@ returns c =
     let count : c .ones .result ≡ supported body =
     c .ones .ensures ∙ ap onesIn (rest 10 body)
     ∙ ones-supported (functionMask body) (bytes-from 10 body (λ i. c .before .before .before .before .before .before .before .before .before .before .before .before .before .shared-slice-known .given i .fits)) few (s .pre .clear) in
-    cc (count, c .before .before .joined3 .ensures, c .before .before .before .before .before .joined2 .ensures, c .before .before .before .before .before .before .before .before .joined .ensures)
+    answer-by
+    (c .before .before .before .before .before .before .before .before .joined .ensures)
+    (c .before .before .before .before .before .joined2 .ensures)
+    (c .before .before .joined3 .ensures)
+    count
 
 pub answer-spec : {M : Type 1} → statement M
 answer-spec =
