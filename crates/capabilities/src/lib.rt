@@ -1,4 +1,4 @@
-// Capabilities RES, command 07 (002, 7.3).
+// Capabilities RES, command 07 (document 01, section 8; 002, 7.3).
 use frame::Refusal;
 use masks::is_marked;
 use masks::is_response;

@@ -1,4 +1,4 @@
-// Node list RES, command 02 (002, 7.4).
+// Node list RES, command 02 (document 01, section 8; 002, 7.4).
 use frame::Refusal;
 use masks::is_marked;
 use masks::is_response;

@@ -1,4 +1,4 @@
-// Set Timeouts, command 06, and its RES (002, 7.5).
+// Set Timeouts, command 06, and its RES (document 01, section 8; 002, 7.5).
 use frame::Built;
 use frame::Refusal;
 use frame::build;
