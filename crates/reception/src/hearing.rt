@@ -1,7 +1,7 @@
 // A byte or a tick is heard (section 4).
 use units::Millis;
 ghost use mathlib.Core.Path.{_≡_};
-ghost use Prim.Native.Nat.{_+_, _<_, _≤_};
+ghost use Prim.Native.Nat.{_+_, _<_};
 ghost use lib.Dec.{eqb};
 ghost use lib.ListN.{length, set};
 ghost use Rattle.frame.specs.Pick.{pick};

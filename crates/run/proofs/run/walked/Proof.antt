@@ -1,11 +1,11 @@
--- `reception::run::walked` meets its contract.
+-- `run::run::walked` meets its contract.
 -- Assumes nothing.
 use mathlib.Core.Path.{sym}
 use denote.Ref.{now}
-use Rattle.reception.proofs.Turns.{walked-is}
+use Rattle.run.proofs.Turns.{walked-is}
 use borrow.Author.Needs.{needs}
-use Rattle.reception.proofs.run.walked.Statement.{statement}
-use Rattle.reception.proofs.run.walked.Tie as tie
+use Rattle.run.proofs.run.walked.Statement.{statement}
+use Rattle.run.proofs.run.walked.Tie as tie
 
 picked-requires : tie.Need-picked-requires
 picked-requires c κs = search needs

@@ -1,4 +1,4 @@
--- `reception::run::noise` meets its contract.
+-- `run::run::noise` meets its contract.
 -- Assumes nothing.
 use mathlib.Core.Path.{_≡_, refl, sym, _∙_}
 use mathlib.Core.List.{List}
@@ -7,11 +7,11 @@ use native.Mathlib.Omega.{arith}
 use borrow.Author.Needs.{needs}
 use denote.Ref.{now}
 use lib.ListN.{length, drop}
 use Rattle.reception.specs.declared.hearing.Event.{Event}
-use Rattle.reception.specs.Run.{hearFrom, skipped}
-use Rattle.reception.proofs.Turns.{noise-more}
-use Rattle.reception.proofs.run.noise.Statement.{statement}
-use Rattle.reception.proofs.run.noise.Tie as tie
+use Rattle.run.specs.Run.{hearFrom, skipped}
+use Rattle.run.proofs.Turns.{noise-more}
+use Rattle.run.proofs.run.noise.Statement.{statement}
+use Rattle.run.proofs.run.noise.Tie as tie
 
 abbrev Inv-loop : tie.InvT-loop
 Inv-loop bytes from i₀ i =

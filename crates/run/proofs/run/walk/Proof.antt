@@ -1,4 +1,4 @@
--- `reception::run::walk` meets its contract.
+-- `run::run::walk` meets its contract.
 -- Assumes nothing.
 use mathlib.Core.Path.{_≡_, refl, sym, ap, _∙_}
 use mathlib.Core.List.{List}
@@ -11,10 +11,10 @@ use lib.ListN.{length, take, drop, set, getD, length-set, length-drop}
 use lib.Seq.{take-all}
 use Rattle.frame.specs.Bytes.{xorAll}
 use Rattle.frame.proofs.Folds.{fold-more}
-use Rattle.reception.specs.Run.{kept}
-use Rattle.reception.proofs.Turns.{kept-more, kept-rest}
-use Rattle.reception.proofs.run.walk.Statement.{statement}
-use Rattle.reception.proofs.run.walk.Tie as tie
+use Rattle.run.specs.Run.{kept}
+use Rattle.run.proofs.Turns.{kept-more, kept-rest}
+use Rattle.run.proofs.run.walk.Statement.{statement}
+use Rattle.run.proofs.run.walk.Tie as tie
 
 abbrev Inv-loop : tie.InvT-loop
 Inv-loop sum s at body₀ n first acc₀ j₀ body acc j =

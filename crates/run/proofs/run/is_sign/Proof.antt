@@ -1,8 +1,8 @@
--- `reception::run::is_sign` meets its contract.
+-- `run::run::is_sign` meets its contract.
 -- Assumes nothing.
 use borrow.Author.Tests.{eq-eqb, ne-eqb}
-use Rattle.reception.proofs.run.is_sign.Statement.{statement}
-use Rattle.reception.proofs.run.is_sign.Tie as tie
+use Rattle.run.proofs.run.is_sign.Statement.{statement}
+use Rattle.run.proofs.run.is_sign.Tie as tie
 
 returns : tie.Need-returns
 returns c = simp (eq-eqb _ _ (c .if1 .taken))

@@ -1,11 +1,11 @@
--- `reception::run::onward` meets its contract.
+-- `run::run::onward` meets its contract.
 -- Assumes nothing.
 use mathlib.Core.Path.{refl}
 use native.Mathlib.Omega.{arith}
 use denote.Ref.{now}
 use borrow.Author.Needs.{needs}
-use Rattle.reception.proofs.run.onward.Statement.{statement}
-use Rattle.reception.proofs.run.onward.Tie as tie
+use Rattle.run.proofs.run.onward.Statement.{statement}
+use Rattle.run.proofs.run.onward.Tie as tie
 
 enum-told : tie.Need-enum-told
 enum-told c = search needs

@@ -3,7 +3,7 @@
 --     noise-more                  a skipped byte more
 --     walks                       body bytes at once
 -- Assumes nothing.
-use mathlib.Core.Path.{_≡_, refl, sym, ap, subst, _∙_}
+use mathlib.Core.Path.{_≡_, refl, sym, ap, _∙_}
 use mathlib.Core.Bool.{Bool, true, false}
 use mathlib.Core.List.{List, [], _∷_, _++_}
 use Prim.Native.Nat.{ℕ, zero, suc, _+_, _-_, _≤_, _<_, min}
@@ -13,21 +13,21 @@ use native.Mathlib.Omega.{arith}
 use borrow.Author.Tests.{lt-ltb, le-ltb, ne-eqb, ltb-true, ltb-false, eq-eqb}
 use lib.Bits.{bitXor}
 use lib.Dec.{ltb, eqb}
-use lib.ListN.{length, take, drop, set, getD, drop-of-length-le, length-set, take-append-drop, length-drop}
+use lib.ListN.{length, take, drop, set, getD, drop-of-length-le, take-append-drop, length-drop}
 use lib.Seq.{drop-cons, drop-drop, length-take-le, set-out}
 use Rattle.frame.specs.Pick.{pick}
 use Rattle.frame.specs.Bytes.{xorAll}
 use Rattle.reception.specs.declared.hearing.Event.{Event}
-use Rattle.reception.specs.declared.hearing.Event.the-variants.{Inside, Kept, Skipped, Alone, Ended, TickHunting, TickInside, Aborted}
-use Rattle.reception.specs.declared.hearing.End.the-variants.{BadSum, BadLength}
+use Rattle.reception.specs.declared.hearing.Event.the-variants.{Inside, Kept, Skipped, Alone, Ended}
+use Rattle.reception.specs.declared.hearing.End.the-variants.{BadLength}
 use Rattle.reception.specs.declared.hearing.Single.the-variants.{Ack, Nak, Can}
 use Rattle.reception.specs.declared.hearing.Heard.{Heard}
 use Rattle.reception.specs.declared.hearing.Hearing.{Hearing}
 use Rattle.reception.specs.declared.hearing.Hearing.the-variants.{Hunting, Head, Body}
 use Rattle.reception.specs.declared.hearing.Partial.{Partial}
-use Rattle.reception.specs.declared.run.Reach.{Reach}
-use Rattle.reception.specs.Hearing.{heard, hunted, measured, begun, more, ended, followed, heardByte, keep}
-use Rattle.reception.specs.Run.{Far, newsByte, behind, hearFrom, start, far, gone, onFrom, Quiet, Onward, isSign, skipped, Noise, kept, walkedBy, picked}
+use Rattle.run.specs.declared.run.Reach.{Reach}
+use Rattle.reception.specs.Hearing.{heard, hunted, measured, begun, more, followed, heardByte, keep}
+use Rattle.run.specs.Run.{Far, newsByte, behind, hearFrom, far, gone, onFrom, Quiet, Onward, isSign, skipped, Noise, kept, walkedBy, picked}
 
 pub no : true ≡ false → ⊥
 no e = let z : _≡_ {A = ℕ} 0 1 = cc in omega arith

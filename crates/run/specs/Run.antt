@@ -6,15 +6,15 @@ use mathlib.Core.List.{List, [], _∷_}
 use lib.Dec.{ltb, eqb}
 use lib.ListN.{length, drop, set, getD}
 use Rattle.frame.specs.Pick.{pick}
 use Rattle.reception.specs.Hearing.{heard, heardByte, keep, more}
 use Rattle.reception.specs.declared.hearing.Heard.{Heard}
 use Rattle.reception.specs.declared.hearing.Hearing.{Hearing}
-use Rattle.reception.specs.declared.hearing.Hearing.the-variants.{Hunting, Head, Body}
+use Rattle.reception.specs.declared.hearing.Hearing.the-variants.{Hunting}
 use Rattle.reception.specs.declared.hearing.Partial.{Partial}
-use Rattle.reception.specs.declared.run.Reach.{Reach}
+use Rattle.run.specs.declared.run.Reach.{Reach}
 use mathlib.Core.Bool.{Bool, true, false}
 use Rattle.reception.specs.declared.hearing.Event.{Event}
 use Rattle.reception.specs.declared.hearing.Event.the-variants.{Inside, Kept, Skipped, Alone, Ended, TickHunting, TickInside, Aborted}
 
 -- A byte has news if it is a single byte, or ends a frame.
 abbrev pub newsByte : Event → Bool

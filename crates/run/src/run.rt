@@ -1,20 +1,20 @@
 // A run of bytes, heard up to the first byte that has news (section 7): a loop over the bytes that breaks there. A turn of it
 // takes more than one byte where it can: noise and the byte that ends it, or a body in one walk and its checksum.
-use crate::hearing::Event;
-use crate::hearing::Heard;
-use crate::hearing::Hearing;
-use crate::hearing::Partial;
-use crate::hearing::followed;
-use crate::hearing::hunted;
-use crate::hearing::measured;
+use reception::Event;
+use reception::Heard;
+use reception::Hearing;
+use reception::Partial;
+use reception::followed;
+use reception::hunted;
+use reception::measured;
 ghost use mathlib.Core.Path.{_≡_};
 ghost use mathlib.Core.List.{List};
 ghost use Prim.Native.Nat.{ℕ, _+_, _-_, _≤_, _<_, min};
-ghost use lib.ListN.{length, getD};
+ghost use lib.ListN.{length};
 ghost use Rattle.frame.specs.Bytes.{xorAll};
-ghost use Rattle.reception.specs.Run as spec;
-ghost use Rattle.reception.specs.Run.{Reached, Noise, Quiet, Onward};
+ghost use Rattle.run.specs.Run as spec;
+ghost use Rattle.run.specs.Run.{Reached, Noise, Quiet, Onward};
 ghost use Rattle.reception.specs.declared.hearing.Hearing.the-variants as hearing;
 
 // How far a run of bytes was heard: the hearing after it, the last event, and how many bytes were taken.
 pub struct Reach {

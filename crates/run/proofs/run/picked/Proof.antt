@@ -1,12 +1,12 @@
--- `reception::run::picked` meets its contract.
+-- `run::run::picked` meets its contract.
 -- Assumes nothing.
 use mathlib.Core.Path.{sym}
 use borrow.Author.Tests.{lt-ltb, le-ltb}
 use denote.Ref.{now}
-use Rattle.reception.proofs.Turns.{getD-in, getD-out}
+use Rattle.run.proofs.Turns.{getD-in, getD-out}
 use borrow.Author.Needs.{needs}
-use Rattle.reception.proofs.run.picked.Statement.{statement}
-use Rattle.reception.proofs.run.picked.Tie as tie
+use Rattle.run.proofs.run.picked.Statement.{statement}
+use Rattle.run.proofs.run.picked.Tie as tie
 
 returns : tie.Need-returns
 returns c = simp (lt-ltb _ _ (c .if1 .taken))

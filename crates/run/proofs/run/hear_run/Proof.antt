@@ -1,4 +1,4 @@
--- `reception::run::hear_run` meets its contract.
+-- `run::run::hear_run` meets its contract.
 -- Assumes nothing.
 use mathlib.Core.Path.{_≡_, refl, sym, _∙_}
 use mathlib.Core.Bool.{false}
@@ -8,10 +8,10 @@ use native.Mathlib.Omega.{arith}
 use borrow.Author.Needs.{needs}
 use denote.Ref.{now}
 use lib.ListN.{length}
-use Rattle.reception.specs.Run.{newsByte, onFrom, far}
-use Rattle.reception.proofs.Turns.{no, on-over}
-use Rattle.reception.proofs.run.hear_run.Statement.{statement}
-use Rattle.reception.proofs.run.hear_run.Tie as tie
+use Rattle.run.specs.Run.{newsByte, onFrom, far}
+use Rattle.run.proofs.Turns.{no, on-over}
+use Rattle.run.proofs.run.hear_run.Statement.{statement}
+use Rattle.run.proofs.run.hear_run.Tie as tie
 
 abbrev Inv-loop : tie.InvT-loop
 Inv-loop bytes body₀ reach₀ body reach =

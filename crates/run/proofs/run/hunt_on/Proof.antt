@@ -1,16 +1,16 @@
--- `reception::run::hunt_on` meets its contract.
+-- `run::run::hunt_on` meets its contract.
 -- Assumes nothing.
 use mathlib.Core.Path.{ap, _∙_}
 use Prim.Native.Nat.{_+_}
 use native.Mathlib.Omega.{arith}
 use denote.Ref.{now}
 use Rattle.reception.specs.declared.hearing.Heard.{Heard}
-use Rattle.reception.specs.declared.run.Reach.{Reach}
-use Rattle.reception.specs.Run.{gone}
-use Rattle.reception.proofs.Turns.{hunts-one, hunts-all}
+use Rattle.run.specs.declared.run.Reach.{Reach}
+use Rattle.run.specs.Run.{gone}
+use Rattle.run.proofs.Turns.{hunts-one, hunts-all}
 use borrow.Author.Needs.{needs}
-use Rattle.reception.proofs.run.hunt_on.Statement.{statement}
-use Rattle.reception.proofs.run.hunt_on.Tie as tie
+use Rattle.run.proofs.run.hunt_on.Statement.{statement}
+use Rattle.run.proofs.run.hunt_on.Tie as tie
 
 noise-requires : tie.Need-noise-requires
 noise-requires c κs = search needs

@@ -1,17 +1,17 @@
--- `reception::run::body_on` meets its contract.
+-- `run::run::body_on` meets its contract.
 -- Assumes nothing.
 use mathlib.Core.Path.{_≡_, ap, _∙_}
 use Prim.Native.Nat.{ℕ, _+_, _-_, _≤_, _<_}
 use native.Mathlib.Omega.{arith}
 use denote.Ref.{now}
 use lib.ListN.{length, take, drop}
 use Rattle.reception.specs.declared.hearing.Heard.{Heard}
-use Rattle.reception.specs.declared.run.Reach.{Reach}
-use Rattle.reception.specs.Run.{gone, walkedBy, kept}
-use Rattle.reception.proofs.Turns.{part-length, walked-at, bodied-whole, bodied-part}
+use Rattle.run.specs.declared.run.Reach.{Reach}
+use Rattle.run.specs.Run.{gone, walkedBy, kept}
+use Rattle.run.proofs.Turns.{part-length, walked-at, bodied-whole, bodied-part}
 use borrow.Author.Needs.{needs}
-use Rattle.reception.proofs.run.body_on.Statement.{statement}
-use Rattle.reception.proofs.run.body_on.Tie as tie
+use Rattle.run.proofs.run.body_on.Statement.{statement}
+use Rattle.run.proofs.run.body_on.Tie as tie
 
 sub-left : tie.Need-sub-left
 sub-left c = search needs

@@ -1,15 +1,15 @@
--- `reception::run::head_on` meets its contract.
+-- `run::run::head_on` meets its contract.
 -- Assumes nothing.
 use mathlib.Core.Path.{ap, _∙_}
 use Prim.Native.Nat.{_+_}
 use denote.Ref.{now}
 use Rattle.reception.specs.declared.hearing.Heard.{Heard}
-use Rattle.reception.specs.declared.run.Reach.{Reach}
-use Rattle.reception.specs.Run.{gone}
-use Rattle.reception.proofs.Turns.{headed-one}
+use Rattle.run.specs.declared.run.Reach.{Reach}
+use Rattle.run.specs.Run.{gone}
+use Rattle.run.proofs.Turns.{headed-one}
 use borrow.Author.Needs.{needs}
-use Rattle.reception.proofs.run.head_on.Statement.{statement}
-use Rattle.reception.proofs.run.head_on.Tie as tie
+use Rattle.run.proofs.run.head_on.Statement.{statement}
+use Rattle.run.proofs.run.head_on.Tie as tie
 
 shared-slice-read-measured : tie.Need-shared-slice-read-measured
 shared-slice-read-measured c = search needs
