@@ -1,6 +1,7 @@
 -- The turns of a run of bytes, each heard at once, are the bytes heard one by one.
 --     hear-end, on-over, on-one   hearing at what is left of the bytes
 --     noise-more                  a skipped byte more
+--     hunts-head                  noise, an 01 and its Length
 --     walks                       body bytes at once
 -- Assumes nothing.
 use mathlib.Core.Path.{_≡_, refl, sym, ap, _∙_}
@@ -157,6 +158,16 @@ headed-one bytes r clock c e x body =
     ∙ ap (λ (v : Hearing). onFrom (behind (heardByte b v) body b (r .taken)) bytes) e
     ∙ ap (λ (l : List ℕ). onFrom (record { heard = measured clock b; body = l; taken = r .taken + 1 }) bytes) (measured-keeps clock b body) in
     record { same = s ∙ ap (λ (q : Reach). onFrom (far q body) bytes) (sym x) }
+
+-- ---- noise, an 01 and its Length
+pub hunts-head : (bytes : List ℕ) (r : Reach) → Quiet bytes r → r .hearing ≡ Hunting → (n : ℕ) → Noise bytes (r .taken) n → (body : List ℕ)
+    → n + 1 < length bytes → getD bytes n 0 ≡ 1 → {q : Reach} → q ≡ gone (measured 0 (getD bytes (n + 1) 0)) (n + 2) → Onward bytes r body q body
+hunts-head bytes r c e n z body h one x =
+    let start : Reach = gone (heard (Head 0) Inside) (n + 1) in
+    let s = hunts-one bytes r c e n z body (omega arith) {q = start} (ap (λ (b : ℕ). gone (hunted b) (n + 1)) (sym one)) in
+    let two : n + 2 ≡ n + 1 + 1 = omega arith in
+    let t = headed-one bytes start 0 (record { there = h; quiet = refl }) refl (x ∙ ap (λ (k : ℕ). gone (measured 0 (getD bytes (n + 1) 0)) k) two) body in
+    record { same = s .same ∙ t .same }
 
 -- ---- in a body
 pub kept-more : (body : List ℕ) (at : ℕ) (s : List ℕ) (j : ℕ) → j < length s → kept body at (drop j s) ≡ kept (set body at (getD s j 0)) (at + 1) (drop (j + 1) s)

@@ -1,5 +1,6 @@
 // A run of bytes, heard up to the first byte that has news (section 7): a loop over the bytes that breaks there. A turn of it
-// takes more than one byte where it can: noise and the byte that ends it, or a body in one walk and its checksum.
+// takes more than one byte where it can: noise and the byte that ends it, an 01 and its Length, or a body in one walk and its
+// checksum.
 use reception::Event;
 use reception::Heard;
 use reception::Hearing;
@@ -178,14 +179,19 @@ fn head_on(r: Reach, clock: u16, bytes: &[u8]) -> Reach
     gone(heard, i + 1)
 }
 
-// While hunting: noise, and the byte that ends it.
+// While hunting: noise, and the byte that ends it; where that is an 01, its Length too, so that a frame costs a turn less.
 fn hunt_on(r: Reach, bytes: &[u8]) -> Reach
     requires { ⌜ Quiet (now bytes) r × (r .hearing ≡ hearing.Hunting) ⌝ }
     ensures { λ q. ⌜ (r .taken < q .taken) × (q .taken ≤ length (now (bytes .entry))) × ((body : List ℕ) → Onward (now (bytes .entry)) r body q body) ⌝ }
 {
     let i = noise(bytes, r.taken);
     if i < bytes.len() {
-        let heard = hunted(bytes[i]);
+        let b = bytes[i];
+        if b == 1 && i + 1 < bytes.len() {
+            let heard = measured(0, bytes[i + 1]);
+            return gone(heard, i + 2);
+        }
+        let heard = hunted(b);
         return gone(heard, i + 1);
     }
     Reach {
