@@ -1,17 +1,6 @@
-// Sending and the session (document 01, sections 5 and 6): the open send or session, and what it does on an event.
-mod job;
-mod report;
+// Sending and the session (document 01, sections 5 and 6): what the open send or session does on an event.
+mod events;
 
-pub use job::Act;
-pub use job::Asking;
-pub use job::Job;
-pub use job::awaits;
-pub use job::is_open;
-pub use job::on_abort;
-pub use job::on_event;
-pub use job::on_restart;
-pub use job::on_tick;
-pub use job::start;
-pub use report::Reset;
-pub use report::Sending;
-pub use report::Session;
+pub use events::awaits;
+pub use events::on_event;
+pub use events::on_restart;

@@ -1,0 +1,135 @@
+// What a tick does to the open send or session (sections 5 and 6).
+use crate::job::Act;
+use crate::job::Asking;
+use crate::job::Job;
+use crate::job::goes_on;
+use crate::job::lose;
+use crate::job::put_out;
+use crate::job::start;
+use crate::report::Reset;
+use crate::report::Sending;
+use crate::report::Session;
+use units::Millis;
+ghost use mathlib.Core.Path.{_≡_};
+ghost use Prim.Native.Nat.{_+_};
+ghost use Rattle.job.specs.Rules.{base};
+ghost use Rattle.job.specs.Ticks as spec;
+
+// How long a copy of so many bytes waits for its ACK: each as long.
+fn ack_wait(_size: u16) -> Millis
+    ensures { λ r. ⌜ r .0 ≡ base .wait «_size» ⌝ }
+{
+    Job::ACK_WAIT
+}
+
+// A tick while waiting for the ACK.
+fn waited(size: u16, hunting: bool, asking: Asking, copies: u8, elapsed: u16) -> Act
+    ensures { λ r. ⌜ r ≡ spec.waited base size hunting asking copies (elapsed + 1) ⌝ }
+{
+    let wait = ack_wait(size);
+    if (elapsed as u32) + 1 < wait.0 {
+        return goes_on(
+            Job::Waiting {
+                asking: asking,
+                copies: copies,
+                elapsed: elapsed + 1,
+            },
+            Sending::Nothing,
+        );
+    }
+    lose(asking, copies)
+}
+
+// A tick of a back-off.
+fn backed(hunting: bool, asking: Asking, copies: u8, left: u16) -> Act
+    ensures { λ r. ⌜ r ≡ spec.backed hunting asking copies left ⌝ }
+{
+    if 1 < left {
+        return goes_on(
+            Job::BackingOff {
+                asking: asking,
+                copies: copies,
+                left: left - 1,
+            },
+            Sending::Nothing,
+        );
+    }
+    start(hunting, asking, copies)
+}
+
+// A tick while a session awaits its response.
+fn awaited(command: u8, copies: u8, elapsed: u16) -> Act
+    ensures { λ r. ⌜ r ≡ spec.awaited command copies (elapsed + 1) ⌝ }
+{
+    let wait = Job::RESPONSE_WAIT;
+    if (elapsed as u32) + 1 < wait.0 {
+        return goes_on(
+            Job::Awaiting {
+                command: command,
+                copies: copies,
+                elapsed: elapsed + 1,
+            },
+            Sending::Nothing,
+        );
+    }
+    Act {
+        job: Job::Idle,
+        sending: Sending::Nothing,
+        session: Session::NoResponse(copies),
+        reset: Reset::Nothing,
+        copy: false,
+    }
+}
+
+// The sender's and the session's part of a tick that aborts no frame.
+pub fn on_tick(size: u16, hunting: bool, job: Job) -> Act
+    ensures { λ r. ⌜ r ≡ spec.onTick base size hunting job ⌝ }
+{
+    match job {
+        Job::Idle => goes_on(job, Sending::Nothing),
+        Job::Due {
+            asking: _,
+            copies: _,
+        } => goes_on(job, Sending::Nothing),
+        Job::Waiting {
+            asking,
+            copies,
+            elapsed,
+        } => waited(size, hunting, asking, copies, elapsed),
+        Job::BackingOff {
+            asking,
+            copies,
+            left,
+        } => backed(hunting, asking, copies, left),
+        Job::Awaiting {
+            command,
+            copies,
+            elapsed,
+        } => awaited(command, copies, elapsed),
+    }
+}
+
+// And of one that does: a due copy goes out, with its wait at 0.
+pub fn on_abort(size: u16, job: Job) -> Act
+    ensures { λ r. ⌜ r ≡ spec.onAbort base size job ⌝ }
+{
+    match job {
+        Job::Idle => on_tick(size, true, job),
+        Job::Due { asking, copies } => put_out(asking, copies),
+        Job::Waiting {
+            asking: _,
+            copies: _,
+            elapsed: _,
+        } => on_tick(size, true, job),
+        Job::BackingOff {
+            asking: _,
+            copies: _,
+            left: _,
+        } => on_tick(size, true, job),
+        Job::Awaiting {
+            command: _,
+            copies: _,
+            elapsed: _,
+        } => on_tick(size, true, job),
+    }
+}

@@ -1,0 +1,109 @@
+-- Sections 5 and 6, sending and the session: what the open send or session does on an event, and at a restart.
+-- Assumes nothing.
+use Prim.Native.Nat.{ℕ}
+use mathlib.Core.Bool.{Bool, true, false}
+use lib.Dec.{eqb}
+use Rattle.frame.specs.Pick.{pick}
+use Rattle.job.specs.Rules.{Rules, told}
+use Rattle.job.specs.Job.{goesOn, still, putOut, lose}
+use Rattle.job.specs.Ticks.{onTick, onAbort}
+use Rattle.reception.specs.declared.hearing.Single.{Single}
+use Rattle.reception.specs.declared.hearing.Single.the-variants.{Ack, Nak, Can}
+use Rattle.reception.specs.declared.hearing.End.{End}
+use Rattle.reception.specs.declared.hearing.End.the-variants as end
+use Rattle.reception.specs.declared.hearing.Event.{Event}
+use Rattle.reception.specs.declared.hearing.Event.the-variants.{Inside, Kept, Skipped, Alone, Ended, TickHunting, TickInside, Aborted}
+use Rattle.job.specs.declared.report.Sending.{Sending}
+use Rattle.job.specs.declared.report.Sending.the-variants as sending
+use Rattle.job.specs.declared.report.Session.{Session}
+use Rattle.job.specs.declared.report.Session.the-variants as session
+use Rattle.job.specs.declared.report.Reset.the-variants as reset
+use Rattle.job.specs.declared.job.Asking.{Asking}
+use Rattle.job.specs.declared.job.Asking.the-variants.{Plain, Asks}
+use Rattle.job.specs.declared.job.Job.{Job}
+use Rattle.job.specs.declared.job.Job.the-variants.{Idle, Due, Waiting, BackingOff, Awaiting}
+use Rattle.job.specs.declared.job.Act.{Act}
+
+-- 06 while waiting: acknowledged. A session stays open and waits for the response.
+abbrev pub acknowledge : Asking → ℕ → Act
+acknowledge Plain n = goesOn Idle (sending.Acknowledged n)
+acknowledge (Asks c) n =
+    record { job = Awaiting c n 0; sending = sending.Acknowledged n; session = session.Waiting; reset = reset.Nothing; copy = false }
+
+-- 06, 15 or 18 while waiting; such a byte comes while hunting
+abbrev pub answered : Rules → Single → Asking → ℕ → Act
+answered R Ack a n = acknowledge a n
+answered R Nak a n = lose R told true a n
+answered R Can a n = lose R told true a n
+
+-- In quiet, due or back-off: stray, nothing changes.
+abbrev pub onSingle : Rules → Single → Job → Act
+onSingle R s Idle = goesOn Idle sending.Stray
+onSingle R s (Due a n) = goesOn (Due a n) sending.Stray
+onSingle R s (Waiting a n e) = answered R s a n
+onSingle R s (BackingOff a n l) = goesOn (BackingOff a n l) sending.Stray
+onSingle R s (Awaiting c n e) = goesOn (Awaiting c n e) sending.Stray
+
+-- The call that ends a reception puts out a due copy.
+abbrev pub release : Job → Act
+release Idle = still Idle
+release (Due a n) = putOut a n
+release (Waiting a n e) = still (Waiting a n e)
+release (BackingOff a n l) = still (BackingOff a n l)
+release (Awaiting c n e) = still (Awaiting c n e)
+
+-- A RES with the same Command while the session awaits it.
+abbrev pub awaits : ℕ → Job → Bool
+awaits command Idle = false
+awaits command (Due a n) = false
+awaits command (Waiting a n e) = false
+awaits command (BackingOff a n l) = false
+awaits command (Awaiting c n e) = eqb command c
+
+abbrev pub copiesOf : Job → ℕ
+copiesOf Idle = 0
+copiesOf (Due a n) = n
+copiesOf (Waiting a n e) = n
+copiesOf (BackingOff a n l) = n
+copiesOf (Awaiting c n e) = n
+
+-- It ends the session with that body.
+abbrev pub respond : Job → Act
+respond j = record { job = Idle; sending = sending.Nothing; session = session.Response (copiesOf j); reset = reset.Nothing; copy = false }
+
+abbrev pub onEnd : End → Job → Act
+onEnd end.BadLength j = release j
+onEnd end.BadSum j = release j
+onEnd end.Reserved j = release j
+onEnd (end.Request size) j = release j
+onEnd (end.Response size command) j = pick (awaits command j) (respond j) (release j)
+
+-- the job's act on an event, with a held frame of so many bytes
+abbrev pub act : Rules → ℕ → Event → Job → Act
+act R size Inside j = still j
+act R size (Kept at) j = still j
+act R size Skipped j = still j
+act R size (Alone s) j = onSingle R s j
+act R size (Ended e) j = onEnd e j
+act R size TickHunting j = onTick R size true j
+act R size TickInside j = onTick R size false j
+act R size Aborted j = onAbort R size j
+
+-- Restart reports abandoned: in the sending part for an open send, in the session part alone for an open session.
+abbrev pub abandonedSend : Asking → Sending
+abandonedSend Plain = sending.Abandoned
+abandonedSend (Asks c) = sending.Nothing
+
+abbrev pub abandonedAsk : Asking → Session
+abandonedAsk Plain = session.Nothing
+abandonedAsk (Asks c) = session.Abandoned
+
+abbrev pub abandon : Asking → Act
+abandon a = record { job = Idle; sending = abandonedSend a; session = abandonedAsk a; reset = reset.Nothing; copy = false }
+
+abbrev pub onRestart : Job → Act
+onRestart Idle = still Idle
+onRestart (Due a n) = abandon a
+onRestart (Waiting a n e) = abandon a
+onRestart (BackingOff a n l) = abandon a
+onRestart (Awaiting c n e) = abandon (Asks c)

@@ -1,0 +1,239 @@
+// What the open send or session does on an event of reception, and at a restart (sections 5 and 6).
+use job::Act;
+use job::Asking;
+use job::Job;
+use job::Reset;
+use job::Sending;
+use job::Session;
+use job::goes_on;
+use job::lose;
+use job::on_abort;
+use job::on_tick;
+use job::start;
+use reception::End;
+use reception::Event;
+use reception::Single;
+ghost use mathlib.Core.Path.{_≡_};
+ghost use Rattle.frame.specs.Pick.{pick};
+ghost use Rattle.job.specs.Rules.{base};
+ghost use Rattle.sending.specs.Events as spec;
+
+fn acknowledge(asking: Asking, copies: u8) -> Act
+    ensures { λ r. ⌜ r ≡ spec.acknowledge asking copies ⌝ }
+{
+    match asking {
+        Asking::Plain => goes_on(Job::Idle, Sending::Acknowledged(copies)),
+        Asking::Asks { command } => Act {
+            job: Job::Awaiting {
+                command: command,
+                copies: copies,
+                elapsed: 0,
+            },
+            sending: Sending::Acknowledged(copies),
+            session: Session::Waiting,
+            reset: Reset::Nothing,
+            copy: false,
+        },
+    }
+}
+
+// 06, 15 or 18 while waiting.
+fn answered(single: Single, asking: Asking, copies: u8) -> Act
+    ensures { λ r. ⌜ r ≡ spec.answered base single asking copies ⌝ }
+{
+    match single {
+        Single::Ack => acknowledge(asking, copies),
+        Single::Nak => lose(asking, copies),
+        Single::Can => lose(asking, copies),
+    }
+}
+
+// In any other state such a byte is stray.
+fn on_single(single: Single, job: Job) -> Act
+    ensures { λ r. ⌜ r ≡ spec.onSingle base single job ⌝ }
+{
+    match job {
+        Job::Idle => goes_on(job, Sending::Stray),
+        Job::Due {
+            asking: _,
+            copies: _,
+        } => goes_on(job, Sending::Stray),
+        Job::Waiting {
+            asking,
+            copies,
+            elapsed: _,
+        } => answered(single, asking, copies),
+        Job::BackingOff {
+            asking: _,
+            copies: _,
+            left: _,
+        } => goes_on(job, Sending::Stray),
+        Job::Awaiting {
+            command: _,
+            copies: _,
+            elapsed: _,
+        } => goes_on(job, Sending::Stray),
+    }
+}
+
+// A reception has ended: a due copy goes out.
+fn release(job: Job) -> Act
+    ensures { λ r. ⌜ r ≡ spec.release job ⌝ }
+{
+    match job {
+        Job::Idle => goes_on(job, Sending::Nothing),
+        Job::Due { asking, copies } => start(true, asking, copies),
+        Job::Waiting {
+            asking: _,
+            copies: _,
+            elapsed: _,
+        } => goes_on(job, Sending::Nothing),
+        Job::BackingOff {
+            asking: _,
+            copies: _,
+            left: _,
+        } => goes_on(job, Sending::Nothing),
+        Job::Awaiting {
+            command: _,
+            copies: _,
+            elapsed: _,
+        } => goes_on(job, Sending::Nothing),
+    }
+}
+
+// Whether a response with this command is the one that an open session awaits.
+pub fn awaits(wanted: u8, job: Job) -> bool
+    ensures { λ r. ⌜ r ≡ spec.awaits wanted job ⌝ }
+{
+    match job {
+        Job::Idle => false,
+        Job::Due {
+            asking: _,
+            copies: _,
+        } => false,
+        Job::Waiting {
+            asking: _,
+            copies: _,
+            elapsed: _,
+        } => false,
+        Job::BackingOff {
+            asking: _,
+            copies: _,
+            left: _,
+        } => false,
+        Job::Awaiting {
+            command,
+            copies: _,
+            elapsed: _,
+        } => wanted == command,
+    }
+}
+
+fn copies_of(job: Job) -> u8
+    ensures { λ r. ⌜ r ≡ spec.copiesOf job ⌝ }
+{
+    match job {
+        Job::Idle => 0,
+        Job::Due { asking: _, copies } => copies,
+        Job::Waiting {
+            asking: _,
+            copies,
+            elapsed: _,
+        } => copies,
+        Job::BackingOff {
+            asking: _,
+            copies,
+            left: _,
+        } => copies,
+        Job::Awaiting {
+            command: _,
+            copies,
+            elapsed: _,
+        } => copies,
+    }
+}
+
+// A response: the awaited one ends the session, any other is an end like the rest.
+fn on_response(command: u8, job: Job) -> Act
+    ensures { λ r. ⌜ r ≡ pick (spec.awaits command job) (spec.respond job) (spec.release job) ⌝ }
+{
+    if awaits(command, job) {
+        let copies = copies_of(job);
+        return Act {
+            job: Job::Idle,
+            sending: Sending::Nothing,
+            session: Session::Response(copies),
+            reset: Reset::Nothing,
+            copy: false,
+        };
+    }
+    release(job)
+}
+
+fn on_end(end: End, job: Job) -> Act
+    ensures { λ r. ⌜ r ≡ spec.onEnd end job ⌝ }
+{
+    match end {
+        End::BadLength => release(job),
+        End::BadSum => release(job),
+        End::Reserved => release(job),
+        End::Request { size: _ } => release(job),
+        End::Response { size: _, command } => on_response(command, job),
+    }
+}
+
+// What the job does on an event, with a held frame of so many bytes.
+pub fn on_event(size: u16, event: Event, job: Job) -> Act
+    ensures { λ r. ⌜ r ≡ spec.act base size event job ⌝ }
+{
+    match event {
+        Event::Inside => goes_on(job, Sending::Nothing),
+        Event::Kept { at: _ } => goes_on(job, Sending::Nothing),
+        Event::Skipped => goes_on(job, Sending::Nothing),
+        Event::Alone(single) => on_single(single, job),
+        Event::Ended(end) => on_end(end, job),
+        Event::TickHunting => on_tick(size, true, job),
+        Event::TickInside => on_tick(size, false, job),
+        Event::Aborted => on_abort(size, job),
+    }
+}
+
+fn abandon(asking: Asking) -> Act
+    ensures { λ r. ⌜ r ≡ spec.abandon asking ⌝ }
+{
+    match asking {
+        Asking::Plain => goes_on(Job::Idle, Sending::Abandoned),
+        Asking::Asks { command: _ } => Act {
+            job: Job::Idle,
+            sending: Sending::Nothing,
+            session: Session::Abandoned,
+            reset: Reset::Nothing,
+            copy: false,
+        },
+    }
+}
+
+// Restart: an open send is abandoned in the sending part, an open session in the session part alone.
+pub fn on_restart(job: Job) -> Act
+    ensures { λ r. ⌜ r ≡ spec.onRestart job ⌝ }
+{
+    match job {
+        Job::Idle => goes_on(Job::Idle, Sending::Nothing),
+        Job::Due { asking, copies: _ } => abandon(asking),
+        Job::Waiting {
+            asking,
+            copies: _,
+            elapsed: _,
+        } => abandon(asking),
+        Job::BackingOff {
+            asking,
+            copies: _,
+            left: _,
+        } => abandon(asking),
+        Job::Awaiting {
+            command,
+            copies: _,
+            elapsed: _,
+        } => abandon(Asking::Asks { command: command }),
+    }
+}
