@@ -177,26 +177,8 @@ pub fn lose(asking: Asking, copies: u8) -> Act
 pub fn is_open(job: Job) -> bool
     ensures { λ r. ⌜ r ≡ spec.isOpen job ⌝ }
 {
-    match job {
-        Job::Idle => false,
-        Job::Due {
-            asking: _,
-            copies: _,
-        } => true,
-        Job::Waiting {
-            asking: _,
-            copies: _,
-            elapsed: _,
-        } => true,
-        Job::BackingOff {
-            asking: _,
-            copies: _,
-            left: _,
-        } => true,
-        Job::Awaiting {
-            command: _,
-            copies: _,
-            elapsed: _,
-        } => true,
+    if let Job::Idle = job {
+        return false;
     }
+    true
 }

@@ -86,8 +86,8 @@ pub fn on_tick(size: u16, hunting: bool, job: Job) -> Act
     ensures { λ r. ⌜ r ≡ spec.onTick base size hunting job ⌝ }
 {
     match job {
-        Job::Idle => goes_on(job, Sending::Nothing),
-        Job::Due {
+        Job::Idle
+        | Job::Due {
             asking: _,
             copies: _,
         } => goes_on(job, Sending::Nothing),
@@ -113,23 +113,8 @@ pub fn on_tick(size: u16, hunting: bool, job: Job) -> Act
 pub fn on_abort(size: u16, job: Job) -> Act
     ensures { λ r. ⌜ r ≡ spec.onAbort base size job ⌝ }
 {
-    match job {
-        Job::Idle => on_tick(size, true, job),
-        Job::Due { asking, copies } => put_out(asking, copies),
-        Job::Waiting {
-            asking: _,
-            copies: _,
-            elapsed: _,
-        } => on_tick(size, true, job),
-        Job::BackingOff {
-            asking: _,
-            copies: _,
-            left: _,
-        } => on_tick(size, true, job),
-        Job::Awaiting {
-            command: _,
-            copies: _,
-            elapsed: _,
-        } => on_tick(size, true, job),
+    if let Job::Due { asking, copies } = job {
+        return put_out(asking, copies);
     }
+    on_tick(size, true, job)
 }

@@ -41,92 +41,48 @@ fn acknowledge(asking: Asking, copies: u8) -> Act
 fn answered(single: Single, asking: Asking, copies: u8) -> Act
     ensures { λ r. ⌜ r ≡ spec.answered base single asking copies ⌝ }
 {
-    match single {
-        Single::Ack => acknowledge(asking, copies),
-        Single::Nak => lose(asking, copies),
-        Single::Can => lose(asking, copies),
+    if let Single::Ack = single {
+        return acknowledge(asking, copies);
     }
+    lose(asking, copies)
 }
 
 // In any other state such a byte is stray.
 fn on_single(single: Single, job: Job) -> Act
     ensures { λ r. ⌜ r ≡ spec.onSingle base single job ⌝ }
 {
-    match job {
-        Job::Idle => goes_on(job, Sending::Stray),
-        Job::Due {
-            asking: _,
-            copies: _,
-        } => goes_on(job, Sending::Stray),
-        Job::Waiting {
-            asking,
-            copies,
-            elapsed: _,
-        } => answered(single, asking, copies),
-        Job::BackingOff {
-            asking: _,
-            copies: _,
-            left: _,
-        } => goes_on(job, Sending::Stray),
-        Job::Awaiting {
-            command: _,
-            copies: _,
-            elapsed: _,
-        } => goes_on(job, Sending::Stray),
+    if let Job::Waiting {
+        asking,
+        copies,
+        elapsed: _,
+    } = job {
+        return answered(single, asking, copies);
     }
+    goes_on(job, Sending::Stray)
 }
 
 // A reception has ended: a due copy goes out.
 fn release(job: Job) -> Act
     ensures { λ r. ⌜ r ≡ spec.release job ⌝ }
 {
-    match job {
-        Job::Idle => goes_on(job, Sending::Nothing),
-        Job::Due { asking, copies } => start(true, asking, copies),
-        Job::Waiting {
-            asking: _,
-            copies: _,
-            elapsed: _,
-        } => goes_on(job, Sending::Nothing),
-        Job::BackingOff {
-            asking: _,
-            copies: _,
-            left: _,
-        } => goes_on(job, Sending::Nothing),
-        Job::Awaiting {
-            command: _,
-            copies: _,
-            elapsed: _,
-        } => goes_on(job, Sending::Nothing),
+    if let Job::Due { asking, copies } = job {
+        return start(true, asking, copies);
     }
+    goes_on(job, Sending::Nothing)
 }
 
 // Whether a response with this command is the one that an open session awaits.
 pub fn awaits(wanted: u8, job: Job) -> bool
     ensures { λ r. ⌜ r ≡ spec.awaits wanted job ⌝ }
 {
-    match job {
-        Job::Idle => false,
-        Job::Due {
-            asking: _,
-            copies: _,
-        } => false,
-        Job::Waiting {
-            asking: _,
-            copies: _,
-            elapsed: _,
-        } => false,
-        Job::BackingOff {
-            asking: _,
-            copies: _,
-            left: _,
-        } => false,
-        Job::Awaiting {
-            command,
-            copies: _,
-            elapsed: _,
-        } => wanted == command,
+    if let Job::Awaiting {
+        command,
+        copies: _,
+        elapsed: _,
+    } = job {
+        return wanted == command;
     }
+    false
 }
 
 fn copies_of(job: Job) -> u8
@@ -173,13 +129,10 @@ fn on_response(command: u8, job: Job) -> Act
 fn on_end(end: End, job: Job) -> Act
     ensures { λ r. ⌜ r ≡ spec.onEnd end job ⌝ }
 {
-    match end {
-        End::BadLength => release(job),
-        End::BadSum => release(job),
-        End::Reserved => release(job),
-        End::Request { size: _ } => release(job),
-        End::Response { size: _, command } => on_response(command, job),
+    if let End::Response { size: _, command } = end {
+        return on_response(command, job);
     }
+    release(job)
 }
 
 // What the job does on an event, with a held frame of so many bytes.
@@ -187,9 +140,7 @@ pub fn on_event(size: u16, event: Event, job: Job) -> Act
     ensures { λ r. ⌜ r ≡ spec.act base size event job ⌝ }
 {
     match event {
-        Event::Inside => goes_on(job, Sending::Nothing),
-        Event::Kept { at: _ } => goes_on(job, Sending::Nothing),
-        Event::Skipped => goes_on(job, Sending::Nothing),
+        Event::Inside | Event::Kept { at: _ } | Event::Skipped => goes_on(job, Sending::Nothing),
         Event::Alone(single) => on_single(single, job),
         Event::Ended(end) => on_end(end, job),
         Event::TickHunting => on_tick(size, true, job),

@@ -1,20 +1,13 @@
 -- `job::ticks::on_tick` meets its contract.
 -- Assumes nothing.
+use mathlib.Core.Path.{_∙_}
+use Rattle.job.proofs.Else.{none-counts}
 use borrow.Author.Needs.{needs}
 use Rattle.job.proofs.ticks.on_tick.Statement.{statement}
 use Rattle.job.proofs.ticks.on_tick.Tie as tie
 
-enum-told : tie.Need-enum-told
-enum-told c = search needs
-
 goes-on-requires : tie.Need-goes-on-requires
 goes-on-requires c κs = search needs
-
-enum-told-2 : tie.Need-enum-told-2
-enum-told-2 c = search needs
-
-goes-on-requires-2 : tie.Need-goes-on-requires-2
-goes-on-requires-2 c κs = search needs
 
 enum-known-job : tie.Need-enum-known-job
 enum-known-job c = search needs
@@ -35,28 +28,22 @@ awaited-requires : tie.Need-awaited-requires
 awaited-requires c κs = search needs
 
 returns : tie.Need-returns
-returns c = simp (c .before .enum-told .given .1, c .goes-on .ensures)
+returns c = c .goes-on .ensures ∙ none-counts (c .before .before .args .size) (c .before .before .args .hunting) (c .before .before .args .job) (c .before .match .keys1)
 
 returns-2 : tie.Need-returns-2
-returns-2 c = simp (c .before .enum-told2 .given .1, c .goes-on2 .ensures)
+returns-2 c = simp (c .before .before .job .given .1, c .waited .ensures)
 
 returns-3 : tie.Need-returns-3
-returns-3 c = simp (c .before .before .job .given .1, c .waited .ensures)
+returns-3 c = simp (c .before .before .job2 .given .1, c .backed .ensures)
 
 returns-4 : tie.Need-returns-4
-returns-4 c = simp (c .before .before .job2 .given .1, c .backed .ensures)
-
-returns-5 : tie.Need-returns-5
-returns-5 c = simp (c .before .before .job3 .given .1, c .awaited .ensures)
+returns-4 c = simp (c .before .before .job3 .given .1, c .awaited .ensures)
 
 pub on-tick-spec : {M : Type 1} → statement M
 on-tick-spec =
     tie.close
     (tie.spec
-    enum-told
     goes-on-requires
-    enum-told-2
-    goes-on-requires-2
     enum-known-job
     waited-requires
     enum-known-job-2
@@ -66,5 +53,4 @@ on-tick-spec =
     returns
     returns-2
     returns-3
-    returns-4
-    returns-5)
+    returns-4)

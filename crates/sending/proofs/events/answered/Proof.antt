@@ -1,7 +1,9 @@
 -- `sending::events::answered` meets its contract.
 -- Assumes nothing.
+use mathlib.Core.Path.{_∙_}
 use mathlib.Core.Bool.{true}
 use Rattle.job.specs.Rules.{told}
+use Rattle.sending.proofs.Else.{no-ack}
 use borrow.Author.Needs.{needs}
 use Rattle.sending.proofs.events.answered.Statement.{statement}
 use Rattle.sending.proofs.events.answered.Tie as tie
@@ -12,37 +14,14 @@ enum-told c = search needs
 acknowledge-requires : tie.Need-acknowledge-requires
 acknowledge-requires c κs = search needs
 
-enum-told-2 : tie.Need-enum-told-2
-enum-told-2 c = search needs
+returns : tie.Need-returns
+returns c = simp (c .before .enum-told .given .1, c .acknowledge .ensures)
 
 lose-requires : tie.Need-lose-requires
 lose-requires c κs = search needs
 
-enum-told-3 : tie.Need-enum-told-3
-enum-told-3 c = search needs
-
-lose-requires-2 : tie.Need-lose-requires-2
-lose-requires-2 c κs = search needs
-
-returns : tie.Need-returns
-returns c = simp (c .before .enum-told .given .1, c .acknowledge .ensures)
-
 returns-2 : tie.Need-returns-2
-returns-2 c = simp (c .before .enum-told2 .given .1) (c .lose .ensures told true)
-
-returns-3 : tie.Need-returns-3
-returns-3 c = simp (c .before .enum-told3 .given .1) (c .lose2 .ensures told true)
+returns-2 c = c .lose .ensures told true ∙ no-ack (c .before .before .args .single) (c .before .before .args .asking) (c .before .before .args .copies) (c .before .match .keys2)
 
 pub answered-spec : {M : Type 1} → statement M
-answered-spec =
-    tie.close
-    (tie.spec
-    enum-told
-    acknowledge-requires
-    enum-told-2
-    lose-requires
-    enum-told-3
-    lose-requires-2
-    returns
-    returns-2
-    returns-3)
+answered-spec = tie.close (tie.spec enum-told acknowledge-requires returns lose-requires returns-2)

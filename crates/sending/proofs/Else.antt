@@ -1,0 +1,74 @@
+-- What the definitions say where an `if let` goes on behind its case, or an arm has several: of each other case, the same.
+-- Assumes nothing.
+use Prim.Native.Nat.{ℕ}
+use mathlib.Core.Path.{_≡_, refl}
+use mathlib.Core.Bool.{Bool, true, false}
+use mathlib.Core.List.{[], _∷_}
+use types.Run.{OneOf, miss}
+use denote.Enum.Declared.{tagOf}
+use Rattle.reception.proofs.hearing.Single.{the-type as single}
+use Rattle.reception.proofs.hearing.End.{the-type as end}
+use Rattle.reception.proofs.hearing.Event.{the-type as event}
+use Rattle.reception.specs.declared.hearing.Single.{Single}
+use Rattle.reception.specs.declared.hearing.Single.the-variants.{Ack, Nak, Can}
+use Rattle.reception.specs.declared.hearing.End.{End}
+use Rattle.reception.specs.declared.hearing.End.the-variants.{BadLength, BadSum, Reserved, Request, Response}
+use Rattle.reception.specs.declared.hearing.Event.{Event}
+use Rattle.reception.specs.declared.hearing.Event.the-variants.{Inside, Kept, Skipped, Alone, Ended, TickHunting, TickInside, Aborted}
+use Rattle.job.proofs.job.Job.{the-type as job}
+use Rattle.job.specs.Rules.{base, told}
+use Rattle.job.specs.Job.{goesOn, still, lose}
+use Rattle.job.specs.declared.job.Asking.{Asking}
+use Rattle.job.specs.declared.job.Job.{Job}
+use Rattle.job.specs.declared.job.Job.the-variants.{Idle, Due, Waiting, BackingOff, Awaiting}
+use Rattle.job.specs.declared.report.Sending.the-variants.{Stray}
+use Rattle.sending.specs.Events.{answered, onSingle, release, awaits, onEnd, act}
+
+-- no 06 while waiting: the copy is lost
+pub no-ack : (s : Single) (a : Asking) (n : ℕ) → OneOf (1 ∷ 2 ∷ []) (tagOf single s) → lose base told true a n ≡ answered base s a n
+no-ack Ack a n o = absurd (miss (1 ∷ 2 ∷ []) 0 tt o)
+no-ack Nak a n o = refl
+no-ack Can a n o = refl
+
+-- no copy waits: the byte is stray
+pub no-wait : (s : Single) (j : Job) → OneOf (0 ∷ 1 ∷ 3 ∷ 4 ∷ []) (tagOf job j) → goesOn j Stray ≡ onSingle base s j
+no-wait s Idle o = refl
+no-wait s (Due a n) o = refl
+no-wait s (Waiting a n e) o = absurd (miss (0 ∷ 1 ∷ 3 ∷ 4 ∷ []) 2 tt o)
+no-wait s (BackingOff a n l) o = refl
+no-wait s (Awaiting c n e) o = refl
+
+-- no copy is due: the job goes on
+pub none-due : (j : Job) → OneOf (0 ∷ 2 ∷ 3 ∷ 4 ∷ []) (tagOf job j) → still j ≡ release j
+none-due Idle o = refl
+none-due (Due a n) o = absurd (miss (0 ∷ 2 ∷ 3 ∷ 4 ∷ []) 1 tt o)
+none-due (Waiting a n e) o = refl
+none-due (BackingOff a n l) o = refl
+none-due (Awaiting c n e) o = refl
+
+-- no session awaits its response: none is the awaited one
+pub none-awaits : (wanted : ℕ) (j : Job) → OneOf (0 ∷ 1 ∷ 2 ∷ 3 ∷ []) (tagOf job j) → false ≡ awaits wanted j
+none-awaits wanted Idle o = refl
+none-awaits wanted (Due a n) o = refl
+none-awaits wanted (Waiting a n e) o = refl
+none-awaits wanted (BackingOff a n l) o = refl
+none-awaits wanted (Awaiting c n e) o = absurd (miss (0 ∷ 1 ∷ 2 ∷ 3 ∷ []) 4 tt o)
+
+-- no response: an end like the rest
+pub no-response : (e : End) (j : Job) → OneOf (0 ∷ 1 ∷ 2 ∷ 3 ∷ []) (tagOf end e) → release j ≡ onEnd e j
+no-response BadLength j o = refl
+no-response BadSum j o = refl
+no-response Reserved j o = refl
+no-response (Request size) j o = refl
+no-response (Response size command) j o = absurd (miss (0 ∷ 1 ∷ 2 ∷ 3 ∷ []) 4 tt o)
+
+-- no single byte, end or tick: the job goes on
+pub no-news : (size : ℕ) (e : Event) (j : Job) → OneOf (0 ∷ 1 ∷ 2 ∷ []) (tagOf event e) → still j ≡ act base size e j
+no-news size Inside j o = refl
+no-news size (Kept at) j o = refl
+no-news size Skipped j o = refl
+no-news size (Alone s) j o = absurd (miss (0 ∷ 1 ∷ 2 ∷ []) 3 tt o)
+no-news size (Ended e) j o = absurd (miss (0 ∷ 1 ∷ 2 ∷ []) 4 tt o)
+no-news size TickHunting j o = absurd (miss (0 ∷ 1 ∷ 2 ∷ []) 5 tt o)
+no-news size TickInside j o = absurd (miss (0 ∷ 1 ∷ 2 ∷ []) 6 tt o)
+no-news size Aborted j o = absurd (miss (0 ∷ 1 ∷ 2 ∷ []) 7 tt o)
