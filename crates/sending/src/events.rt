@@ -37,7 +37,7 @@ fn acknowledge(asking: Asking, copies: u8) -> Act
     }
 }
 
-// 06, 15 or 18 while waiting.
+// 06, 15 or 18 while waiting: the copy is acknowledged, or given up.
 fn answered(single: Single, asking: Asking, copies: u8) -> Act
     ensures { λ r. ⌜ r ≡ spec.answered base single asking copies ⌝ }
 {
@@ -126,6 +126,7 @@ fn on_response(command: u8, job: Job) -> Act
     release(job)
 }
 
+// The end of a reception: a response may be the awaited one.
 fn on_end(end: End, job: Job) -> Act
     ensures { λ r. ⌜ r ≡ spec.onEnd end job ⌝ }
 {
