@@ -12,7 +12,7 @@ use native.Mathlib.Numerals.{add-one}
 use native.Mathlib.Omega.{arith}
 use lib.ListN.{length, drop, getD, drop-of-length-le}
 use lib.Seq.{drop-cons}
-use Rattle.sending.specs.Rules.{base}
+use Rattle.job.specs.Rules.{base}
 use Rattle.link.specs.Step.{Out, byteOut, tickOut, openOut}
 use Rattle.step.specs.Checks.{checks, sessionChecks}
 use Rattle.step.specs.declared.checks.Checked.{Checked}
@@ -21,7 +21,7 @@ use Rattle.link.specs.Calls.{Call}
 use Rattle.link.specs.declared.state.Link.{Link}
 use Rattle.link.specs.State.{freshLink}
 use Rattle.link.specs.declared.calls.Answered.{Answered}
-use Rattle.sending.specs.declared.job.Asking.the-variants.{Asks}
+use Rattle.job.specs.declared.job.Asking.the-variants.{Asks}
 use Rattle.frame.specs.Frame.{frameOf}
 use Rattle.exports.specs.Numbers.{mixed, answerNumber}
 use Rattle.exports.specs.Feeding.{Fed, at, afterCall, byteFed, tickFed, bytesFed, ticksFed, opened, asked, unsummed, heardFed, Ended}

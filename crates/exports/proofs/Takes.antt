@@ -13,7 +13,7 @@ use lib.ListN.{length, take, drop, length-drop, length-take, drop-of-length-le}
 use lib.Seq.{drop-drop}
 use borrow.Author.Tests.{eq-eqb, ne-eqb}
 use Rattle.frame.specs.Pick.{pick}
-use Rattle.sending.specs.Rules.{base}
+use Rattle.job.specs.Rules.{base}
 use Rattle.link.specs.Step.{Out, Taken, byteOut, news, runFrom, runOut, quiet}
 use Rattle.step.specs.Checks.{checks}
 use Rattle.step.specs.declared.checks.Checked.{Checked}

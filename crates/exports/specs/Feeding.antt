@@ -8,7 +8,7 @@ use lib.Dec.{eqb}
 use lib.ListN.{length, take, drop}
 use Rattle.frame.specs.Pick.{pick}
 use Rattle.frame.specs.Frame.{frameOf}
-use Rattle.sending.specs.Rules.{base}
+use Rattle.job.specs.Rules.{base}
 use Rattle.link.specs.State.{freshLink}
 use Rattle.link.specs.Step.{Out, Taken, byteOut, tickOut, openOut, runOut}
 use Rattle.step.specs.Checks.{checks, sessionChecks}
@@ -18,7 +18,7 @@ use Rattle.link.specs.Calls.{answered, ran, left}
 use Rattle.link.specs.declared.state.Link.{Link}
 use Rattle.link.specs.declared.calls.Answered.{Answered}
 use Rattle.link.specs.declared.calls.Ran.{Ran}
-use Rattle.sending.specs.declared.job.Asking.the-variants.{Asks}
+use Rattle.job.specs.declared.job.Asking.the-variants.{Asks}
 use Rattle.exports.specs.Numbers.{mixed, answerNumber, runNumber, takenBy}
 
 -- the link, the lent buffers, and the number so far

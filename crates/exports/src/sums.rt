@@ -1,9 +1,9 @@
 // What the calls of a run told, as one number.
+use job::Reset;
+use job::Sending;
+use job::Session;
 use link::Answer;
 use link::RunAnswer;
-use sending::Reset;
-use sending::Sending;
-use sending::Session;
 use step::Reception;
 use step::Report;
 ghost use mathlib.Core.Path.{_≡_};

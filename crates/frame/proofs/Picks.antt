@@ -1,6 +1,8 @@
 -- From what `pick` gave back to the test: a case that it cannot have given tells which one it did.
 -- Assumes nothing.
-use mathlib.Core.Path.{_≡_, refl}
+use Prim.Native.Nat.{ℕ}
+use native.Mathlib.Omega.{arith}
+use mathlib.Core.Path.{_≡_, refl, ap}
 use mathlib.Core.Bool.{Bool, true, false}
 use Rattle.frame.specs.Pick.{pick}
 
@@ -13,3 +15,6 @@ picked-first false n e = absurd (n e)
 pub picked-second : {A : Type 0} (t : Bool) {x y z : A} → (x ≡ z → ⊥) → pick t x y ≡ z → (t ≡ false) × (y ≡ z)
 picked-second true n e = absurd (n e)
 picked-second false n e = (refl, e)
+
+pub no : true ≡ false → ⊥
+no e = let z : _≡_ {A = ℕ} 0 1 = ap (λ (t : Bool). pick t 0 1) e in omega arith

@@ -8,19 +8,19 @@ use lib.ListN.{length, length-append}
 use lib.Seq.{take-append-seam}
 use Rattle.frame.specs.Bytes.{over}
 use Rattle.frame.specs.Frame.{frameOf, counted, checksum}
-use Rattle.sending.specs.Rules.{Rules, base, backOffs}
+use Rattle.job.specs.Rules.{Rules, base, backOffs}
 use Rattle.reception.specs.Hearing.{isHunting}
-use Rattle.sending.specs.Job.{start}
+use Rattle.job.specs.Job.{start}
 use Rattle.step.specs.Report.{said, sums}
 use Rattle.link.specs.Step.{Out, openOut}
 use Rattle.step.specs.Checks.{roomChecks}
 use Rattle.reception.specs.declared.hearing.Hearing.{Hearing}
 use Rattle.reception.specs.declared.hearing.Hearing.the-variants.{Hunting, Head, Body}
-use Rattle.sending.specs.declared.job.Asking.{Asking}
-use Rattle.sending.specs.declared.job.Asking.the-variants.{Plain, Asks}
+use Rattle.job.specs.declared.job.Asking.{Asking}
+use Rattle.job.specs.declared.job.Asking.the-variants.{Plain, Asks}
 use Rattle.step.specs.declared.report.Reception.the-variants as reception
 use Rattle.step.specs.declared.report.Reply.the-variants as reply
-use Rattle.sending.specs.declared.report.Reset.the-variants as reset
+use Rattle.job.specs.declared.report.Reset.the-variants as reset
 use Rattle.link.specs.declared.state.Link.{Link}
 use Rattle.history.specs.Calls.{send, session, Call, checksOf}
 use Rattle.history.specs.History.{after}

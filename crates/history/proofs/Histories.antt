@@ -7,8 +7,8 @@ use mathlib.Core.List.{List, [], _∷_}
 use native.Mathlib.Omega.{arith}
 use lib.ListN.{length}
 use Rattle.frame.specs.Frame.{frameOf}
-use Rattle.sending.specs.Rules.{Rules}
-use Rattle.sending.specs.Job.{isOpen}
+use Rattle.job.specs.Rules.{Rules}
+use Rattle.job.specs.Job.{isOpen}
 use Rattle.link.specs.State.{freshLink}
 use Rattle.link.specs.Step.{Out, Taken, byteOut, tickOut, openOut, restartOut, news, runFrom, quiet}
 use Rattle.step.specs.Checks.{sendChecks, sessionChecks, roomChecks}
@@ -16,8 +16,8 @@ use Rattle.step.proofs.Passed.{room-passed}
 use Rattle.step.proofs.Passed as checks
 use Rattle.step.specs.declared.checks.Checked.{Checked}
 use Rattle.step.specs.declared.checks.Checked.the-variants.{Passes, Refuses}
-use Rattle.sending.specs.declared.job.Asking.{Asking}
-use Rattle.sending.specs.declared.job.Asking.the-variants.{Plain, Asks}
+use Rattle.job.specs.declared.job.Asking.{Asking}
+use Rattle.job.specs.declared.job.Asking.the-variants.{Plain, Asks}
 use Rattle.link.specs.declared.state.Link.{Link}
 use Rattle.history.specs.Calls.{What, byte, bytes, tick, send, session, restart, Call, checksOf, outOf, took, doneBy, perform}
 use Rattle.history.specs.History.{next, run, after}

@@ -9,8 +9,10 @@ use native.Mathlib.Numerals.{add-one}
 use lib.Dec.{eqb, ltb}
 use borrow.Author.Tests.{ltb-true, ltb-false, eqb-false, lt-ltb}
 use Rattle.frame.specs.Pick.{pick}
-use Rattle.sending.specs.Rules.{Rules, Cause, told, time}
-use Rattle.sending.specs.Job.{goesOn, still, nextCopy, putOut, start, fail, backOff, lose, acknowledge, onSingle, release, awaits, copiesOf, respond, onEnd, awaited, onTick, onAbort, act}
+use Rattle.job.specs.Rules.{Rules, Cause, told, time}
+use Rattle.job.specs.Job.{goesOn, still, nextCopy, putOut, start, fail, backOff, lose}
+use Rattle.job.specs.Ticks.{awaited, onTick, onAbort}
+use Rattle.sending.specs.Events.{acknowledge, onSingle, release, awaits, copiesOf, respond, onEnd, act}
 use Rattle.reception.specs.declared.hearing.Hearing.{Hearing}
 use Rattle.reception.specs.declared.hearing.Single.{Single}
 use Rattle.reception.specs.declared.hearing.Single.the-variants.{Ack, Nak, Can}
@@ -18,15 +20,15 @@ use Rattle.reception.specs.declared.hearing.End.{End}
 use Rattle.reception.specs.declared.hearing.End.the-variants as end
 use Rattle.reception.specs.declared.hearing.Event.{Event}
 use Rattle.reception.specs.declared.hearing.Event.the-variants.{Inside, Kept, Skipped, Alone, Ended, TickHunting, TickInside, Aborted}
-use Rattle.sending.specs.declared.job.Act.{Act}
-use Rattle.sending.specs.declared.job.Asking.{Asking}
-use Rattle.sending.specs.declared.job.Asking.the-variants.{Plain, Asks}
-use Rattle.sending.specs.declared.job.Job.{Job}
-use Rattle.sending.specs.declared.job.Job.the-variants.{Idle, Due, Waiting, BackingOff, Awaiting}
-use Rattle.sending.specs.declared.report.Reset.the-variants as reset
-use Rattle.sending.specs.declared.report.Sending.{Sending}
-use Rattle.sending.specs.declared.report.Sending.the-variants as sending
-use Rattle.sending.specs.declared.report.Session.the-variants as session
+use Rattle.job.specs.declared.job.Act.{Act}
+use Rattle.job.specs.declared.job.Asking.{Asking}
+use Rattle.job.specs.declared.job.Asking.the-variants.{Plain, Asks}
+use Rattle.job.specs.declared.job.Job.{Job}
+use Rattle.job.specs.declared.job.Job.the-variants.{Idle, Due, Waiting, BackingOff, Awaiting}
+use Rattle.job.specs.declared.report.Reset.the-variants as reset
+use Rattle.job.specs.declared.report.Sending.{Sending}
+use Rattle.job.specs.declared.report.Sending.the-variants as sending
+use Rattle.job.specs.declared.report.Session.the-variants as session
 use Rattle.history.specs.Watch.{Verdict, copiesIn, isFailure, Says, none, says, sendVerdict, sessionVerdict, verdictIn}
 use Rattle.history.proofs.Reception.{pick-by, room, Within, WithinIf, Stays, Passes, Aborts, Alones, Tells, ticksAt}
 

@@ -8,9 +8,10 @@ use native.Mathlib.Omega.{arith}
 use lib.Dec.{eqb, ltb}
 use lib.ListN.{take}
 use Rattle.frame.specs.Pick.{pick}
-use Rattle.sending.specs.Rules.{Rules, told}
+use Rattle.job.specs.Rules.{Rules, told}
 use Rattle.reception.specs.Hearing.{heardByte, heardTick}
-use Rattle.sending.specs.Job.{still, onSingle, awaits, copiesOf, act}
+use Rattle.job.specs.Job.{still}
+use Rattle.sending.specs.Events.{onSingle, awaits, copiesOf, act}
 use Rattle.step.specs.Report.{replyBytes, saidEnd, saidOn, sumsOn, newsReception, newsSending}
 use Rattle.step.specs.Step.{outcome, decision, decideOn}
 use Rattle.link.specs.Step.{Out, Taken, out, byteBy, byteOut, tickOut, news, quiet, runFrom, runOut}
@@ -22,11 +23,11 @@ use Rattle.reception.specs.declared.hearing.End.the-variants as end
 use Rattle.reception.specs.declared.hearing.Event.{Event}
 use Rattle.reception.specs.declared.hearing.Event.the-variants.{Inside, Kept, Skipped, Alone, Ended, TickHunting, TickInside, Aborted}
 use Rattle.reception.specs.declared.hearing.Heard.{Heard}
-use Rattle.sending.specs.declared.job.Act.{Act}
-use Rattle.sending.specs.declared.job.Asking.{Asking}
-use Rattle.sending.specs.declared.job.Asking.the-variants.{Plain, Asks}
-use Rattle.sending.specs.declared.job.Job.{Job}
-use Rattle.sending.specs.declared.job.Job.the-variants.{Idle, Due, Waiting, BackingOff, Awaiting}
+use Rattle.job.specs.declared.job.Act.{Act}
+use Rattle.job.specs.declared.job.Asking.{Asking}
+use Rattle.job.specs.declared.job.Asking.the-variants.{Plain, Asks}
+use Rattle.job.specs.declared.job.Job.{Job}
+use Rattle.job.specs.declared.job.Job.the-variants.{Idle, Due, Waiting, BackingOff, Awaiting}
 use Rattle.step.specs.declared.report.Reception.{Reception}
 use Rattle.step.specs.declared.report.Reception.the-variants as reception
 use Rattle.step.specs.declared.report.Reply.{Reply}

@@ -4,9 +4,9 @@ use Prim.Native.Nat.{ℕ, _+_, _≤_}
 use mathlib.Core.Path.{_≡_, refl, sym, subst}
 use mathlib.Core.List.{List, [], _∷_}
 use native.Mathlib.Omega.{arith}
-use Rattle.sending.specs.Rules.{Rules}
+use Rattle.job.specs.Rules.{Rules}
 use Rattle.reception.specs.Hearing.{heardByte, heardTick}
-use Rattle.sending.specs.Job.{act, onRestart}
+use Rattle.sending.specs.Events.{act, onRestart}
 use Rattle.link.specs.Step.{Out, Taken, byteOut, tickOut, restartOut, news, runFrom, runOut, quiet}
 use Rattle.step.specs.Checks.{roomChecks}
 use Rattle.step.specs.declared.checks.Checked.{Checked}
@@ -14,11 +14,11 @@ use Rattle.step.specs.declared.checks.Checked.the-variants.{Passes, Refuses}
 use Rattle.reception.specs.declared.hearing.End.the-variants as end
 use Rattle.reception.specs.declared.hearing.Event.{Event}
 use Rattle.reception.specs.declared.hearing.Event.the-variants.{Inside, Kept, Skipped, Alone, Ended, TickHunting, TickInside, Aborted}
-use Rattle.sending.specs.declared.job.Act.{Act}
-use Rattle.sending.specs.declared.job.Asking.{Asking}
-use Rattle.sending.specs.declared.job.Asking.the-variants.{Plain, Asks}
-use Rattle.sending.specs.declared.job.Job.{Job}
-use Rattle.sending.specs.declared.job.Job.the-variants.{Idle, Due, Waiting, BackingOff, Awaiting}
+use Rattle.job.specs.declared.job.Act.{Act}
+use Rattle.job.specs.declared.job.Asking.{Asking}
+use Rattle.job.specs.declared.job.Asking.the-variants.{Plain, Asks}
+use Rattle.job.specs.declared.job.Job.{Job}
+use Rattle.job.specs.declared.job.Job.the-variants.{Idle, Due, Waiting, BackingOff, Awaiting}
 use Rattle.link.specs.declared.state.Link.{Link}
 use Rattle.history.specs.Calls.{What, byte, bytes, tick, send, session, restart, Call, checksOf, outOf, doneBy}
 use Rattle.history.specs.Watch.{Says, none, says, verdictIn, verdictOf, count, countTaken, countDone, verdicts}

@@ -5,7 +5,7 @@ use mathlib.Core.Path.{_≡_, refl, ap, _∙_}
 use mathlib.Core.List.{List, []}
 use lib.ListN.{length}
 use Rattle.frame.specs.Bytes.{over}
-use Rattle.sending.specs.Rules.{Rules}
+use Rattle.job.specs.Rules.{Rules}
 use Rattle.link.specs.Step.{Out, Taken, reportOf, runOut}
 use Rattle.step.specs.Checks.{checks}
 use Rattle.step.specs.declared.checks.Checked.{Checked}

@@ -12,9 +12,11 @@ use borrow.Author.Tests.{ltb-true, ltb-false}
 use Rattle.frame.specs.Frame.{frameOf}
 use Rattle.frame.proofs.Over.{over-length}
 use Rattle.frame.proofs.Theorems.{frame-bounds}
-use Rattle.sending.specs.Rules.{Rules, Cause, told, time, base, backOffs}
+use Rattle.job.specs.Rules.{Rules, Cause, told, time, base, backOffs}
 use Rattle.reception.specs.Hearing.{heardByte, heardTick, hunted, keep, isHunting}
-use Rattle.sending.specs.Job.{start, lose, onSingle, onTick, onAbort, onEnd, release, awaits, act}
+use Rattle.job.specs.Job.{start, lose}
+use Rattle.job.specs.Ticks.{onTick, onAbort}
+use Rattle.sending.specs.Events.{onSingle, onEnd, release, awaits, act}
 use Rattle.step.specs.Report.{sumsEnd, sumsOn}
 use Rattle.link.specs.State.{noBody, noFrame}
 use Rattle.link.specs.Step.{Out, byteOut, tickOut, openOut}
@@ -27,11 +29,11 @@ use Rattle.reception.specs.declared.hearing.End.the-variants as end
 use Rattle.reception.specs.declared.hearing.Event.{Event}
 use Rattle.reception.specs.declared.hearing.Event.the-variants.{Inside, Kept, Skipped, Alone, Ended, TickHunting, TickInside, Aborted}
 use Rattle.reception.specs.declared.hearing.Heard.{Heard}
-use Rattle.sending.specs.declared.job.Act.{Act}
-use Rattle.sending.specs.declared.job.Asking.{Asking}
-use Rattle.sending.specs.declared.job.Asking.the-variants.{Plain, Asks}
-use Rattle.sending.specs.declared.job.Job.{Job}
-use Rattle.sending.specs.declared.job.Job.the-variants.{Idle, Due, Waiting, BackingOff, Awaiting}
+use Rattle.job.specs.declared.job.Act.{Act}
+use Rattle.job.specs.declared.job.Asking.{Asking}
+use Rattle.job.specs.declared.job.Asking.the-variants.{Plain, Asks}
+use Rattle.job.specs.declared.job.Job.{Job}
+use Rattle.job.specs.declared.job.Job.the-variants.{Idle, Due, Waiting, BackingOff, Awaiting}
 use Rattle.link.specs.declared.state.Link.{Link}
 use Rattle.history.specs.Calls.{Call}
 use Rattle.history.specs.History.{after}

@@ -13,9 +13,9 @@ use Rattle.frame.specs.Pick.{pick}
 use Rattle.frame.specs.Bytes.{over, xorAll}
 use Rattle.frame.specs.Frame.{counted, checksum}
 use Rattle.frame.proofs.Over.{put-byte}
-use Rattle.sending.specs.Rules.{Rules}
+use Rattle.job.specs.Rules.{Rules}
 use Rattle.reception.specs.Hearing.{heard, begun, more, ended}
-use Rattle.sending.specs.Job.{awaits, onEnd}
+use Rattle.sending.specs.Events.{awaits, onEnd}
 use Rattle.link.specs.Step.{Out, byteBy, byteOut}
 use Rattle.reception.specs.declared.hearing.Partial.{Partial}
 use Rattle.reception.specs.declared.hearing.Hearing.the-variants.{Hunting, Head, Body}

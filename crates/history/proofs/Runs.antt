@@ -7,7 +7,7 @@ use mathlib.Core.List.{List, [], _∷_, _++_, append-assoc}
 use native.Mathlib.Omega.{arith}
 use lib.ListN.{length, take, length-append}
 use lib.Seq.{take-at}
-use Rattle.sending.specs.Rules.{Rules}
+use Rattle.job.specs.Rules.{Rules}
 use Rattle.link.specs.Step.{Out, Taken, byteOut, news, quiet, runFrom, runOut}
 use Rattle.link.specs.declared.state.Link.{Link}
 use Rattle.history.specs.Received.{feed}

@@ -9,9 +9,11 @@ use lib.Dec.{ltb, eqb}
 use lib.ListN.{take}
 use borrow.Author.Tests.{ltb-true, ltb-false, lt-ltb, le-ltb, eq-eqb, ne-eqb}
 use Rattle.frame.specs.Pick.{pick}
-use Rattle.sending.specs.Rules.{Rules}
+use Rattle.job.specs.Rules.{Rules}
 use Rattle.reception.specs.Hearing.{heard, heardByte, heardTick, begun, more, ended}
-use Rattle.sending.specs.Job.{nextCopy, putOut, release, awaits, onEnd, onTick, onAbort, act}
+use Rattle.job.specs.Job.{nextCopy, putOut}
+use Rattle.job.specs.Ticks.{onTick, onAbort}
+use Rattle.sending.specs.Events.{release, awaits, onEnd, act}
 use Rattle.step.specs.Report.{replyBytes, saidEnd, saidOn}
 use Rattle.step.specs.Step.{decideOn}
 use Rattle.link.specs.Step.{Out, out, byteBy, byteOut, tickOut}
@@ -22,17 +24,17 @@ use Rattle.reception.specs.declared.hearing.End.{End}
 use Rattle.reception.specs.declared.hearing.End.the-variants as end
 use Rattle.reception.specs.declared.hearing.Event.the-variants.{Inside, Kept, Ended, TickInside, Aborted}
 use Rattle.reception.specs.declared.hearing.Heard.{Heard}
-use Rattle.sending.specs.declared.job.Act.{Act}
-use Rattle.sending.specs.declared.job.Asking.{Asking}
-use Rattle.sending.specs.declared.job.Job.{Job}
-use Rattle.sending.specs.declared.job.Job.the-variants.{Idle, Due, Waiting, BackingOff, Awaiting}
+use Rattle.job.specs.declared.job.Act.{Act}
+use Rattle.job.specs.declared.job.Asking.{Asking}
+use Rattle.job.specs.declared.job.Job.{Job}
+use Rattle.job.specs.declared.job.Job.the-variants.{Idle, Due, Waiting, BackingOff, Awaiting}
 use Rattle.step.specs.declared.report.Reception.the-variants as reception
 use Rattle.step.specs.declared.report.Reply.{Reply}
 use Rattle.step.specs.declared.report.Reply.the-variants as reply
-use Rattle.sending.specs.declared.report.Reset.the-variants as reset
-use Rattle.sending.specs.declared.report.Sending.{Sending}
-use Rattle.sending.specs.declared.report.Sending.the-variants as sending
-use Rattle.sending.specs.declared.report.Session.the-variants as session
+use Rattle.job.specs.declared.report.Reset.the-variants as reset
+use Rattle.job.specs.declared.report.Sending.{Sending}
+use Rattle.job.specs.declared.report.Sending.the-variants as sending
+use Rattle.job.specs.declared.report.Session.the-variants as session
 use Rattle.link.specs.declared.state.Link.{Link}
 use Rattle.history.specs.Ranges.{IsInside}
 use Rattle.history.proofs.Reception.{pick-by, pick-ok}

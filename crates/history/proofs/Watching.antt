@@ -7,15 +7,16 @@ use mathlib.Core.List.{List, [], _∷_}
 use native.Mathlib.Omega.{arith}
 use native.Mathlib.Nat.{zero-add}
 use lib.ListN.{length, replicate, length-replicate}
-use Rattle.sending.specs.Rules.{Rules}
-use Rattle.sending.specs.Job.{copiesOf, isOpen}
+use Rattle.job.specs.Rules.{Rules}
+use Rattle.job.specs.Job.{isOpen}
+use Rattle.sending.specs.Events.{copiesOf}
 use Rattle.link.specs.Step.{Out}
 use Rattle.step.specs.Checks.{roomChecks}
 use Rattle.step.specs.declared.checks.Checked.{Checked}
 use Rattle.step.specs.declared.checks.Checked.the-variants.{Passes, Refuses}
 use Rattle.reception.specs.declared.hearing.Hearing.{Hearing}
-use Rattle.sending.specs.declared.job.Asking.{Asking}
-use Rattle.sending.specs.declared.job.Job.{Job}
+use Rattle.job.specs.declared.job.Asking.{Asking}
+use Rattle.job.specs.declared.job.Job.{Job}
 use Rattle.link.specs.declared.state.Link.{Link}
 use Rattle.history.specs.Calls.{What, byte, bytes, tick, send, session, restart, Call, checksOf, outOf, Done, refused, took, doneBy, perform}
 use Rattle.history.specs.History.{next, ticksOf, restartsOf, accepted, ticksIn, restartsIn}

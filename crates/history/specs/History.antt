@@ -2,7 +2,7 @@
 -- Assumes nothing.
 use Prim.Native.Nat.{ℕ, _+_}
 use mathlib.Core.List.{List, [], _∷_}
-use Rattle.sending.specs.Rules.{Rules}
+use Rattle.job.specs.Rules.{Rules}
 use Rattle.link.specs.State.{freshLink}
 use Rattle.link.specs.declared.state.Link.{Link}
 use Rattle.history.specs.Calls.{What, byte, bytes, tick, send, session, restart, Call, Done, refused, took, perform}

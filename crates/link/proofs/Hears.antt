@@ -17,27 +17,28 @@ use Rattle.reception.specs.declared.hearing.Hearing.{Hearing}
 use Rattle.reception.specs.declared.hearing.Hearing.the-variants.{Hunting, Head, Body}
 use Rattle.reception.specs.declared.hearing.Single.{Single}
 use Rattle.reception.specs.declared.hearing.Single.the-variants.{Ack, Nak, Can}
-use Rattle.sending.specs.declared.job.Act.{Act}
-use Rattle.sending.specs.declared.job.Asking.{Asking}
-use Rattle.sending.specs.declared.job.Asking.the-variants.{Plain, Asks}
-use Rattle.sending.specs.declared.job.Job.{Job}
-use Rattle.sending.specs.declared.job.Job.the-variants.{Idle, Due, Waiting, BackingOff, Awaiting}
+use Rattle.job.specs.declared.job.Act.{Act}
+use Rattle.job.specs.declared.job.Asking.{Asking}
+use Rattle.job.specs.declared.job.Asking.the-variants.{Plain, Asks}
+use Rattle.job.specs.declared.job.Job.{Job}
+use Rattle.job.specs.declared.job.Job.the-variants.{Idle, Due, Waiting, BackingOff, Awaiting}
 use Rattle.step.specs.declared.report.Reception.{Reception}
 use Rattle.step.specs.declared.report.Reception.the-variants as reception
 use Rattle.step.specs.declared.state.Core.{Core}
 use Rattle.link.specs.declared.state.Link.{Link}
-use Rattle.sending.specs.Rules.{Rules, told}
+use Rattle.job.specs.Rules.{Rules, told}
 use Rattle.reception.specs.Hearing.{heard, heardByte, heardTick}
 use Rattle.reception.specs.Hearing as spec
-use Rattle.sending.specs.Job.{goesOn, awaits, isOpen, lose, onSingle, onEnd}
-use Rattle.sending.specs.declared.report.Sending.the-variants as sending
+use Rattle.job.specs.Job.{goesOn, isOpen, lose}
+use Rattle.sending.specs.Events.{awaits, onSingle, onEnd}
+use Rattle.job.specs.declared.report.Sending.the-variants as sending
 use Rattle.step.specs.Report.{newsReception, newsSending, saidEnd, saidOn}
-use Rattle.sending.specs.declared.report.Reset.{Reset}
-use Rattle.sending.specs.declared.report.Reset.the-variants as reset
+use Rattle.job.specs.declared.report.Reset.{Reset}
+use Rattle.job.specs.declared.report.Reset.the-variants as reset
 use Rattle.step.specs.Step.{decideOn}
 use Rattle.link.specs.Step.{Out, Taken, out, byteOut, news, quiet, runFrom, runOut}
-use Rattle.reception.specs.Run.{Far, newsByte, behind, hearFrom, start}
-use Rattle.reception.proofs.Turns.{no}
+use Rattle.run.specs.Run.{Far, newsByte, behind, hearFrom, start}
+use Rattle.frame.proofs.Picks.{no}
 
 pick-ok : {A : Type 0} (P : A → Type 0) (x : Bool) (a b : A) → P a → P b → P (pick x a b)
 pick-ok P true a b p q = p

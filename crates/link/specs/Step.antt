@@ -6,19 +6,20 @@ use mathlib.Core.List.{List, [], _∷_}
 use lib.ListN.{length, take}
 use Rattle.frame.specs.Pick.{pick}
 use Rattle.frame.specs.Bytes.{over}
-use Rattle.sending.specs.Rules.{Rules}
+use Rattle.job.specs.Rules.{Rules}
 use Rattle.reception.specs.Hearing.{heardByte, heardTick, keep, isHunting}
-use Rattle.sending.specs.Job.{start, still, onRestart}
+use Rattle.job.specs.Job.{start, still}
+use Rattle.sending.specs.Events.{onRestart}
 use Rattle.step.specs.Writing.{lineBytes}
 use Rattle.step.specs.Report.{newsReception, newsSending, newsSession, newsReset}
 use Rattle.link.specs.State.{freshLink}
 use Rattle.reception.specs.declared.hearing.Heard.{Heard}
-use Rattle.sending.specs.declared.job.Asking.{Asking}
+use Rattle.job.specs.declared.job.Asking.{Asking}
 use Rattle.step.specs.declared.report.Reception.{Reception}
 use Rattle.step.specs.declared.report.Reception.the-variants as reception
-use Rattle.sending.specs.declared.report.Reset.{Reset}
-use Rattle.sending.specs.declared.report.Sending.{Sending}
-use Rattle.sending.specs.declared.report.Session.{Session}
+use Rattle.job.specs.declared.report.Reset.{Reset}
+use Rattle.job.specs.declared.report.Sending.{Sending}
+use Rattle.job.specs.declared.report.Session.{Session}
 use Rattle.step.specs.declared.report.Report.{Report}
 use Rattle.link.specs.declared.state.Link.{Link}
 use Rattle.step.specs.Step.{Decision, decision, decideOn, told, opened, restarted}

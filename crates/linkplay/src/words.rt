@@ -1,12 +1,12 @@
 // The words of a report (section 7 of document 01). Each part has a list of words, and each of its values a place in it.
+use job::Reset;
+use job::Sending;
+use job::Session;
 use script::numbered;
 use script::plain;
 use script::put;
 use script::put_nth;
 use script::put_one;
-use sending::Reset;
-use sending::Sending;
-use sending::Session;
 use step::Reception;
 use step::Report;
 

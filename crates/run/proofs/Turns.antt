@@ -17,6 +17,7 @@ use lib.Dec.{ltb, eqb}
 use lib.ListN.{length, take, drop, set, getD, drop-of-length-le, take-append-drop, length-drop}
 use lib.Seq.{drop-cons, drop-drop, length-take-le, set-out}
 use Rattle.frame.specs.Pick.{pick}
+use Rattle.frame.proofs.Picks.{no}
 use Rattle.frame.specs.Bytes.{xorAll}
 use Rattle.reception.specs.declared.hearing.Event.{Event}
 use Rattle.reception.specs.declared.hearing.Event.the-variants.{Inside, Kept, Skipped, Alone, Ended}
@@ -29,9 +30,6 @@ use Rattle.reception.specs.declared.hearing.Partial.{Partial}
 use Rattle.run.specs.declared.run.Reach.{Reach}
 use Rattle.reception.specs.Hearing.{heard, hunted, measured, begun, more, followed, heardByte, keep}
 use Rattle.run.specs.Run.{Far, newsByte, behind, hearFrom, far, gone, onFrom, Quiet, Onward, isSign, skipped, Noise, kept, walkedBy, picked}
-
-pub no : true ≡ false → ⊥
-no e = let z : _≡_ {A = ℕ} 0 1 = cc in omega arith
 
 -- ---- hearing at what is left
 module _ (f : Far) (i : ℕ) (bytes : List ℕ) where

@@ -4,10 +4,10 @@ use mathlib.Core.Path.{refl}
 use mathlib.Core.List.{[]}
 use Rattle.frame.specs.Bytes.{xorAll}
 use Rattle.frame.specs.Frame.{frameOf}
-use Rattle.sending.specs.Rules.{base}
+use Rattle.job.specs.Rules.{base}
 use Rattle.link.specs.State.{noBody, noFrame}
 use Rattle.link.specs.Step.{byteOut, tickOut, openOut}
-use Rattle.sending.specs.declared.job.Asking.the-variants.{Plain, Asks}
+use Rattle.job.specs.declared.job.Asking.the-variants.{Plain, Asks}
 use Rattle.history.specs.Calls.{send, session, outOf}
 use Rattle.history.specs.History.{after}
 use Rattle.history.specs.Watch.{failed, noResponse}

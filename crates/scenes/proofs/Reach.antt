@@ -14,8 +14,9 @@ use borrow.Author.Tests.{lt-ltb, le-ltb, ne-eqb}
 use Rattle.frame.specs.Pick.{pick}
 use Rattle.frame.specs.Bytes.{over}
 use Rattle.frame.specs.Frame.{frameOf}
-use Rattle.sending.specs.Rules.{Rules, time, base}
-use Rattle.sending.specs.Job.{goesOn, still, putOut, fail, onTick}
+use Rattle.job.specs.Rules.{Rules, time, base}
+use Rattle.job.specs.Job.{goesOn, still, putOut, fail}
+use Rattle.job.specs.Ticks.{onTick}
 use Rattle.step.specs.Report.{saidOn, sumsOn}
 use Rattle.link.specs.State.{noBody, noFrame}
 use Rattle.step.specs.Step.{outcome, decision}
@@ -24,15 +25,15 @@ use Rattle.reception.specs.declared.hearing.Hearing.{Hearing}
 use Rattle.reception.specs.declared.hearing.Hearing.the-variants.{Hunting, Head}
 use Rattle.reception.specs.declared.hearing.Event.{Event}
 use Rattle.reception.specs.declared.hearing.Event.the-variants.{TickHunting, TickInside, Aborted}
-use Rattle.sending.specs.declared.job.Act.{Act}
-use Rattle.sending.specs.declared.job.Asking.{Asking}
-use Rattle.sending.specs.declared.job.Asking.the-variants.{Plain, Asks}
-use Rattle.sending.specs.declared.job.Job.{Job}
-use Rattle.sending.specs.declared.job.Job.the-variants.{Due, Waiting, BackingOff, Awaiting}
-use Rattle.sending.specs.declared.report.Reset.the-variants as reset
-use Rattle.sending.specs.declared.report.Sending.{Sending}
-use Rattle.sending.specs.declared.report.Sending.the-variants as sending
-use Rattle.sending.specs.declared.report.Session.the-variants as session
+use Rattle.job.specs.declared.job.Act.{Act}
+use Rattle.job.specs.declared.job.Asking.{Asking}
+use Rattle.job.specs.declared.job.Asking.the-variants.{Plain, Asks}
+use Rattle.job.specs.declared.job.Job.{Job}
+use Rattle.job.specs.declared.job.Job.the-variants.{Due, Waiting, BackingOff, Awaiting}
+use Rattle.job.specs.declared.report.Reset.the-variants as reset
+use Rattle.job.specs.declared.report.Sending.{Sending}
+use Rattle.job.specs.declared.report.Sending.the-variants as sending
+use Rattle.job.specs.declared.report.Session.the-variants as session
 use Rattle.link.specs.declared.state.Link.{Link}
 use Rattle.history.specs.Calls.{byte, tick, send, session as sessionCall, Call}
 use Rattle.history.specs.History.{after}

@@ -7,7 +7,7 @@ use Rattle.frame.specs.Bytes.{xorAll}
 use Rattle.frame.specs.Frame.{frameOf}
 use Rattle.link.specs.State.{noBody, noFrame}
 use Rattle.link.specs.Step.{byteOut, tickOut, openOut}
-use Rattle.bodies.specs.Mask.{marked}
+use Rattle.masks.specs.Mask.{marked}
 use Rattle.scenes.specs.Example.{Holds, All}
 use Rattle.scenes.specs.Table.{table, req07, req06, req06-times, is-sum, is-length, is-short, is-kind, ack-in-time, second-copy, silent-line, told-each-time, due-in-a-frame, three-bad, good-between, first-byte-05}
 

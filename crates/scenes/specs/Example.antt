@@ -11,10 +11,10 @@ use Rattle.frame.specs.declared.builder.Built.{Built}
 use Rattle.frame.specs.declared.reader.Reading.{Reading}
 use Rattle.units.specs.Units.{convertedOf}
 use Rattle.units.specs.declared.Millis.{Millis}
-use Rattle.sending.specs.Rules.{base}
-use Rattle.bodies.specs.Nodes as nodes
-use Rattle.bodies.specs.Timeouts.{ticksFor, setOf}
-use Rattle.bodies.specs.declared.nodes.NodeList.{NodeList}
+use Rattle.job.specs.Rules.{base}
+use Rattle.nodes.specs.Nodes as nodes
+use Rattle.timeouts.specs.Timeouts.{ticksFor, setOf}
+use Rattle.nodes.specs.declared.NodeList.{NodeList}
 use Rattle.history.specs.Calls.{Call}
 use Rattle.scenes.specs.Scene.{Seen, seen}
 

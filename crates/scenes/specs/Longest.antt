@@ -3,9 +3,9 @@
 use Prim.Native.Nat.{ℕ, _-_}
 use mathlib.Core.Path.{_≡_}
 use mathlib.Core.List.{List, [], _∷_, _++_}
-use Rattle.sending.specs.Rules.{Rules, time}
+use Rattle.job.specs.Rules.{Rules, time}
 use Rattle.link.specs.Step.{Out}
-use Rattle.sending.specs.declared.job.Asking.{Asking}
+use Rattle.job.specs.declared.job.Asking.{Asking}
 use Rattle.history.specs.Calls.{What, byte, Call, took, perform}
 use Rattle.history.specs.History.{after}
 use Rattle.history.specs.Watch.{Verdict, ended, watched}

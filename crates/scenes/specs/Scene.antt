@@ -4,13 +4,13 @@ use Prim.Native.Nat.{ℕ, zero, suc, _+_}
 use mathlib.Core.List.{List, [], _∷_}
 use Rattle.frame.specs.Pick.{pick}
 use Rattle.frame.specs.declared.refusal.Refusal.{Refusal}
-use Rattle.sending.specs.Rules.{Rules}
+use Rattle.job.specs.Rules.{Rules}
 use Rattle.link.specs.State.{freshLink}
 use Rattle.link.specs.Step.{news}
 use Rattle.step.specs.declared.report.Reception.{Reception}
-use Rattle.sending.specs.declared.report.Reset.{Reset}
-use Rattle.sending.specs.declared.report.Sending.{Sending}
-use Rattle.sending.specs.declared.report.Session.{Session}
+use Rattle.job.specs.declared.report.Reset.{Reset}
+use Rattle.job.specs.declared.report.Sending.{Sending}
+use Rattle.job.specs.declared.report.Session.{Session}
 use Rattle.link.specs.declared.state.Link.{Link}
 use Rattle.history.specs.Calls.{What, tick, Call, Done, refused, took, perform}
 use Rattle.history.specs.History.{next, ticksOf, accepted}

@@ -8,12 +8,12 @@ use Rattle.frame.specs.declared.reader.Reading.the-variants.{Refused}
 use Rattle.frame.specs.declared.refusal.Refusal.the-variants as refusal
 use Rattle.step.specs.declared.report.Reception.{Reception}
 use Rattle.step.specs.declared.report.Reception.the-variants as reception
-use Rattle.sending.specs.declared.report.Reset.{Reset}
-use Rattle.sending.specs.declared.report.Reset.the-variants as reset
-use Rattle.sending.specs.declared.report.Sending.{Sending}
-use Rattle.sending.specs.declared.report.Sending.the-variants as sending
-use Rattle.sending.specs.declared.report.Session.the-variants as session
-use Rattle.bodies.specs.declared.nodes.NodeList.the-variants as nodes
+use Rattle.job.specs.declared.report.Reset.{Reset}
+use Rattle.job.specs.declared.report.Reset.the-variants as reset
+use Rattle.job.specs.declared.report.Sending.{Sending}
+use Rattle.job.specs.declared.report.Sending.the-variants as sending
+use Rattle.job.specs.declared.report.Session.the-variants as session
+use Rattle.nodes.specs.declared.NodeList.the-variants as nodes
 use Rattle.history.specs.Calls.{Call, byte, send}
 use Rattle.scenes.specs.Scene.{lent, silence, Seen, said}
 use Rattle.scenes.specs.Example.{build, setTimeouts, read, list, play, built, reading, listed, shows, Example}

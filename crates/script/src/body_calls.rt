@@ -12,14 +12,14 @@ use crate::printing::put_end;
 use crate::printing::put_front;
 use crate::printing::put_named;
 use crate::verb::BodyVerb;
-use bodies::Capabilities;
-use bodies::NodeList;
-use bodies::OldTimeouts;
-use bodies::Support;
+use capabilities::Capabilities;
+use capabilities::Support;
+use nodes::NodeList;
+use timeouts::OldTimeouts;
 use units::Millis;
 
 fn is_supported(body: &[u8], f: u8) -> bool {
-    match bodies::supports(body, f) {
+    match capabilities::supports(body, f) {
         Support::Refused(_) => false,
         Support::Supported => true,
         Support::Unsupported => false,
@@ -76,7 +76,7 @@ fn put_fixed(
 }
 
 fn capabilities(body: &[u8], out: &mut [u8], waiting: usize) -> usize {
-    match bodies::read_capabilities(body) {
+    match capabilities::read_capabilities(body) {
         Capabilities::Refused(refusal) => put_no(b"capabilities", refusal, out, waiting),
         Capabilities::Answer {
             version,
@@ -120,7 +120,7 @@ fn put_nodes(
 
 // The line of a node list; the lent list is as before the call again.
 fn nodes(body: &[u8], list: &mut [u8], out: &mut [u8], waiting: usize) -> usize {
-    match bodies::read_nodes(body, list) {
+    match nodes::read_nodes(body, list) {
         NodeList::Refused(refusal) => put_refusal(b"nodes", refusal, list, out, waiting),
         NodeList::Answer {
             version,
@@ -141,12 +141,12 @@ fn nodes(body: &[u8], list: &mut [u8], out: &mut [u8], waiting: usize) -> usize 
 }
 
 fn timeouts(rxack: u32, rxbyte: u32, lent: &mut [u8], out: &mut [u8], waiting: usize) -> usize {
-    let answer = bodies::set_timeouts(Millis(rxack), Millis(rxbyte), lent);
+    let answer = timeouts::set_timeouts(Millis(rxack), Millis(rxbyte), lent);
     put_built(b"timeouts", answer, lent, out, waiting)
 }
 
 fn old_timeouts(body: &[u8], out: &mut [u8], waiting: usize) -> usize {
-    match bodies::read_timeouts(body) {
+    match timeouts::read_timeouts(body) {
         OldTimeouts::Refused(refusal) => put_no(b"timeoutsres", refusal, out, waiting),
         OldTimeouts::Were { rxack, rxbyte } => {
             let a = put_counted(b"timeoutsres ok ", rxack.0 as u64, out, waiting);

@@ -4,13 +4,14 @@ use mathlib.Core.Path.{_≡_, refl}
 use mathlib.Core.Bool.{false}
 use Rattle.reception.specs.declared.hearing.End.{End}
 use Rattle.reception.specs.declared.hearing.End.the-variants as end
-use Rattle.reception.proofs.Turns.{no}
-use Rattle.sending.specs.declared.job.Job.{Job}
-use Rattle.sending.specs.declared.job.Job.the-variants.{Idle, Due, Waiting, BackingOff, Awaiting}
-use Rattle.sending.specs.declared.report.Reset.{Reset}
-use Rattle.sending.specs.declared.report.Reset.the-variants as reset
-use Rattle.sending.specs.declared.report.Sending.the-variants as sending
-use Rattle.sending.specs.Job.{goesOn, isOpen, onEnd}
+use Rattle.frame.proofs.Picks.{no}
+use Rattle.job.specs.declared.job.Job.{Job}
+use Rattle.job.specs.declared.job.Job.the-variants.{Idle, Due, Waiting, BackingOff, Awaiting}
+use Rattle.job.specs.declared.report.Reset.{Reset}
+use Rattle.job.specs.declared.report.Reset.the-variants as reset
+use Rattle.job.specs.declared.report.Sending.the-variants as sending
+use Rattle.job.specs.Job.{goesOn, isOpen}
+use Rattle.sending.specs.Events.{onEnd}
 use Rattle.step.specs.Report.{either}
 
 -- with no job open no reset is the sender's

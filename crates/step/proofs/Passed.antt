@@ -7,16 +7,17 @@ use native.Mathlib.Omega.{arith}
 use lib.Dec.{ltb}
 use borrow.Author.Tests.{ltb-false}
 use Rattle.frame.specs.Pick.{pick}
+use Rattle.frame.proofs.Picks.{no}
 use Rattle.frame.specs.declared.refusal.Refusal.{Refusal}
 use Rattle.frame.specs.declared.refusal.Refusal.the-variants.{Room, Busy, Kind, Long}
-use Rattle.sending.specs.Job.{isOpen}
-use Rattle.sending.specs.declared.job.Job.{Job}
+use Rattle.job.specs.Job.{isOpen}
+use Rattle.job.specs.declared.job.Job.{Job}
 use Rattle.step.specs.declared.checks.Checked.{Checked}
 use Rattle.step.specs.declared.checks.Checked.the-variants.{Passes, Refuses}
 use Rattle.step.specs.Checks.{check, lacksRoom, roomChecks, sendChecks, sessionChecks}
 
 neither : (x y : Bool) → pick x true y ≡ false → (x ≡ false) × (y ≡ false)
-neither true y e = absurd (let z : _≡_ {A = ℕ} 0 1 = ap (λ (b : Bool). pick b 0 1) e in omega arith)
+neither true y e = absurd (no e)
 neither false y e = (refl, e)
 
 pub has-room : (line up : ℕ) → lacksRoom line up ≡ false → (258 ≤ line) × (254 ≤ up)

@@ -8,8 +8,8 @@ use lib.ListN.{length}
 use Rattle.frame.specs.Pick.{pick}
 use Rattle.frame.specs.declared.refusal.Refusal.{Refusal}
 use Rattle.frame.specs.declared.refusal.Refusal.the-variants.{Room, Busy, Kind, Long}
-use Rattle.sending.specs.Job.{isOpen}
-use Rattle.sending.specs.declared.job.Job.{Job}
+use Rattle.job.specs.Job.{isOpen}
+use Rattle.job.specs.declared.job.Job.{Job}
 use Rattle.step.specs.declared.checks.Checked.{Checked}
 use Rattle.step.specs.declared.checks.Checked.the-variants.{Passes, Refuses}
 

@@ -5,20 +5,20 @@ use mathlib.Core.Bool.{Bool, true, false}
 use mathlib.Core.List.{List, [], _∷_}
 use lib.Dec.{ltb}
 use Rattle.frame.specs.Pick.{pick}
-use Rattle.sending.specs.Job.{awaits}
+use Rattle.sending.specs.Events.{awaits}
 use Rattle.reception.specs.declared.hearing.End.{End}
 use Rattle.reception.specs.declared.hearing.End.the-variants as end
 use Rattle.reception.specs.declared.hearing.Event.{Event}
 use Rattle.reception.specs.declared.hearing.Event.the-variants.{Inside, Kept, Skipped, Alone, Ended, TickHunting, TickInside, Aborted}
-use Rattle.sending.specs.declared.job.Job.{Job}
+use Rattle.job.specs.declared.job.Job.{Job}
 use Rattle.step.specs.declared.report.Reception.{Reception}
 use Rattle.step.specs.declared.report.Reception.the-variants as reception
-use Rattle.sending.specs.declared.report.Reset.{Reset}
-use Rattle.sending.specs.declared.report.Reset.the-variants as reset
-use Rattle.sending.specs.declared.report.Sending.{Sending}
-use Rattle.sending.specs.declared.report.Sending.the-variants as sending
-use Rattle.sending.specs.declared.report.Session.{Session}
-use Rattle.sending.specs.declared.report.Session.the-variants as session
+use Rattle.job.specs.declared.report.Reset.{Reset}
+use Rattle.job.specs.declared.report.Reset.the-variants as reset
+use Rattle.job.specs.declared.report.Sending.{Sending}
+use Rattle.job.specs.declared.report.Sending.the-variants as sending
+use Rattle.job.specs.declared.report.Session.{Session}
+use Rattle.job.specs.declared.report.Session.the-variants as session
 use Rattle.step.specs.declared.report.Reply.{Reply}
 use Rattle.step.specs.declared.report.Reply.the-variants.{Silent, Ack, Nak}
 use Rattle.step.specs.declared.report.Said.{Said}

@@ -1,7 +1,7 @@
 -- Section 5: opening gives a fresh link. Its numbers.
 -- Assumes nothing.
 use Rattle.reception.specs.declared.hearing.Hearing.the-variants.{Hunting}
-use Rattle.sending.specs.declared.job.Job.the-variants.{Idle}
+use Rattle.job.specs.declared.job.Job.the-variants.{Idle}
 use Rattle.step.specs.declared.state.Core.{Core}
 
 abbrev pub freshCore : Core

@@ -3,24 +3,24 @@
 use Prim.Native.Nat.{ℕ}
 use mathlib.Core.Bool.{Bool, false}
 use lib.ListN.{length}
-use Rattle.sending.specs.Rules.{Rules}
-use Rattle.sending.specs.Job.{act}
+use Rattle.job.specs.Rules.{Rules}
+use Rattle.sending.specs.Events.{act}
 use Rattle.step.specs.Report.{said, saidOn, sums, sumsOn, either}
 use Rattle.reception.specs.declared.hearing.Event.{Event}
 use Rattle.reception.specs.declared.hearing.Heard.{Heard}
 use Rattle.reception.specs.declared.hearing.Hearing.{Hearing}
 use Rattle.reception.specs.declared.hearing.Hearing.the-variants.{Hunting}
-use Rattle.sending.specs.declared.job.Act.{Act}
-use Rattle.sending.specs.declared.job.Job.{Job}
-use Rattle.sending.specs.declared.job.Job.the-variants.{Idle}
+use Rattle.job.specs.declared.job.Act.{Act}
+use Rattle.job.specs.declared.job.Job.{Job}
+use Rattle.job.specs.declared.job.Job.the-variants.{Idle}
 use Rattle.step.specs.declared.report.Reception.{Reception}
 use Rattle.step.specs.declared.report.Reception.the-variants as reception
 use Rattle.step.specs.declared.report.Reply.{Reply}
 use Rattle.step.specs.declared.report.Reply.the-variants.{Silent, Nak}
-use Rattle.sending.specs.declared.report.Reset.{Reset}
-use Rattle.sending.specs.declared.report.Reset.the-variants as reset
-use Rattle.sending.specs.declared.report.Sending.{Sending}
-use Rattle.sending.specs.declared.report.Session.{Session}
+use Rattle.job.specs.declared.report.Reset.{Reset}
+use Rattle.job.specs.declared.report.Reset.the-variants as reset
+use Rattle.job.specs.declared.report.Sending.{Sending}
+use Rattle.job.specs.declared.report.Session.{Session}
 use Rattle.step.specs.declared.report.Said.{Said}
 use Rattle.step.specs.declared.report.Sums.{Sums}
 use Rattle.step.specs.declared.report.Report.{Report}

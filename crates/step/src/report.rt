@@ -1,17 +1,17 @@
 // The report (section 7): four parts, each a case with its own data, and the numbers of bytes. What reception says of an event.
+use job::Job;
+use job::Reset;
+use job::Sending;
+use job::Session;
 use reception::End;
 use reception::Event;
-use sending::Job;
-use sending::Reset;
-use sending::Sending;
-use sending::Session;
 use sending::awaits;
 ghost use mathlib.Core.Path.{_≡_};
 ghost use Rattle.frame.specs.Pick.{pick};
 ghost use Rattle.step.specs.Report as spec;
 ghost use Rattle.step.specs.declared.report.Reply.the-variants.{Silent, Ack};
 ghost use Rattle.step.specs.declared.report.Reception.the-variants as reception;
-ghost use Rattle.sending.specs.Job as jobs;
+ghost use Rattle.sending.specs.Events as events;
 
 pub enum Reception {
     Nothing,
@@ -66,7 +66,7 @@ pub fn saying(reception: Reception, reply: Reply, up: u8) -> Said
 
 // A response is handed up like any frame; one that no session awaits is marked stray.
 fn said_response(size: u8, command: u8, job: Job) -> Said
-    ensures { λ r. ⌜ r ≡ spec.said (pick (jobs.awaits command job) reception.Frame reception.StrayResponse) Ack size ⌝ }
+    ensures { λ r. ⌜ r ≡ spec.said (pick (events.awaits command job) reception.Frame reception.StrayResponse) Ack size ⌝ }
 {
     if awaits(command, job) {
         return saying(Reception::Frame, Reply::Ack, size);

@@ -11,25 +11,26 @@ use crate::report::said_on;
 use crate::report::saying;
 use crate::report::sums_on;
 use crate::state::Core;
+use job::Act;
+use job::Asking;
+use job::Job;
+use job::Reset;
+use job::Sending;
+use job::Session;
+use job::is_open;
+use job::on_abort;
+use job::on_tick;
+use job::start;
 use reception::Event;
 use reception::Hearing;
-use sending::Act;
-use sending::Asking;
-use sending::Job;
-use sending::Reset;
-use sending::Sending;
-use sending::Session;
-use sending::is_open;
-use sending::on_abort;
 use sending::on_event;
 use sending::on_restart;
-use sending::on_tick;
-use sending::start;
 ghost use mathlib.Core.Path.{_≡_};
 ghost use Prim.Native.Nat.{ℕ};
-ghost use Rattle.sending.specs.Rules.{base};
-ghost use Rattle.sending.specs.Job as jobs;
-ghost use Rattle.sending.specs.declared.job.Job.the-variants as job;
+ghost use Rattle.job.specs.Rules.{base};
+ghost use Rattle.job.specs.Job as jobs;
+ghost use Rattle.sending.specs.Events as events;
+ghost use Rattle.job.specs.declared.job.Job.the-variants as job;
 ghost use Rattle.step.specs.Step as spec;
 ghost use Rattle.step.specs.declared.report.Reception.the-variants as reception;
 
@@ -85,7 +86,7 @@ pub fn decide_on(job: Job, bad: u8, size: u16, event: Event) -> Outcome
 
 // With no job open, 06, 15 and 18 are stray, and nothing else concerns the sender.
 fn stray_on(event: Event) -> Sending
-    ensures { λ r. ⌜ ((size : ℕ) → jobs.act base size event job.Idle ≡ jobs.goesOn job.Idle r) ⌝ }
+    ensures { λ r. ⌜ ((size : ℕ) → events.act base size event job.Idle ≡ jobs.goesOn job.Idle r) ⌝ }
 {
     match event {
         Event::Alone(_) => Sending::Stray,
@@ -157,7 +158,7 @@ pub fn opening(hunting: bool, asking: Asking, bad: u8) -> Outcome
 
 // Restart: 15 is put out, and an open send or session is abandoned.
 pub fn restarting(job: Job) -> Outcome
-    ensures { λ r. ⌜ r ≡ spec.restarting (jobs.onRestart job) ⌝ }
+    ensures { λ r. ⌜ r ≡ spec.restarting (events.onRestart job) ⌝ }
 {
     let act = on_restart(job);
     let sending = act.sending;

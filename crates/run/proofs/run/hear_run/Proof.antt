@@ -9,7 +9,8 @@ use borrow.Author.Needs.{needs}
 use denote.Ref.{now}
 use lib.ListN.{length}
 use Rattle.run.specs.Run.{newsByte, onFrom, far}
-use Rattle.run.proofs.Turns.{no, on-over}
+use Rattle.frame.proofs.Picks.{no}
+use Rattle.run.proofs.Turns.{on-over}
 use Rattle.run.proofs.run.hear_run.Statement.{statement}
 use Rattle.run.proofs.run.hear_run.Tie as tie
 

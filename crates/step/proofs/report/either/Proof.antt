@@ -5,9 +5,9 @@ use denote.Enum.Declared.{tagOf}
 use mathlib.Core.List.{List, [], _∷_}
 use Prim.Native.Nat.{ℕ}
 use mathlib.Core.Path.{_≡_, refl}
-use Rattle.sending.specs.declared.report.Reset.{Reset}
-use Rattle.sending.specs.declared.report.Reset.the-variants.{Nothing, Sums, Delivery}
-use Rattle.sending.proofs.report.Reset.{the-type}
+use Rattle.job.specs.declared.report.Reset.{Reset}
+use Rattle.job.specs.declared.report.Reset.the-variants.{Nothing, Sums, Delivery}
+use Rattle.job.proofs.report.Reset.{the-type}
 use Rattle.step.specs.Report.{either}
 use borrow.Author.Needs.{needs}
 use Rattle.step.proofs.report.either.Statement.{statement}

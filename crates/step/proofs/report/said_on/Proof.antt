@@ -8,7 +8,7 @@ use mathlib.Core.Path.{_≡_, refl}
 use Rattle.reception.specs.declared.hearing.Event.{Event}
 use Rattle.reception.specs.declared.hearing.Event.the-variants.{Inside, Kept, Skipped, Alone, Ended, TickHunting, TickInside, Aborted}
 use Rattle.reception.proofs.hearing.Event.{the-type}
-use Rattle.sending.specs.declared.job.Job.{Job}
+use Rattle.job.specs.declared.job.Job.{Job}
 use Rattle.step.specs.declared.report.Reception.the-variants as reception
 use Rattle.step.specs.declared.report.Reply.the-variants.{Silent}
 use Rattle.step.specs.Report.{said, saidOn}

@@ -8,7 +8,7 @@ use mathlib.Core.Path.{_≡_, refl}
 use Rattle.reception.specs.declared.hearing.End.{End}
 use Rattle.reception.specs.declared.hearing.End.the-variants as end
 use Rattle.reception.proofs.hearing.End.{the-type}
-use Rattle.sending.specs.declared.report.Reset.the-variants as reset
+use Rattle.job.specs.declared.report.Reset.the-variants as reset
 use Rattle.step.specs.Report.{sums, sumsEnd}
 use borrow.Author.Needs.{needs}
 use Rattle.step.proofs.report.sums_end.Statement.{statement}

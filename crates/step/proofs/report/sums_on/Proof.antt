@@ -8,7 +8,7 @@ use mathlib.Core.Path.{_≡_, refl}
 use Rattle.reception.specs.declared.hearing.Event.{Event}
 use Rattle.reception.specs.declared.hearing.Event.the-variants.{Inside, Kept, Skipped, Alone, Ended, TickHunting, TickInside, Aborted}
 use Rattle.reception.proofs.hearing.Event.{the-type}
-use Rattle.sending.specs.declared.report.Reset.the-variants as reset
+use Rattle.job.specs.declared.report.Reset.the-variants as reset
 use Rattle.step.specs.Report.{sums, sumsOn}
 use borrow.Author.Needs.{needs}
 use Rattle.step.proofs.report.sums_on.Statement.{statement}

@@ -1,7 +1,7 @@
 -- `step::step::decide` meets its contract.
 -- Assumes nothing.
 use mathlib.Core.Path.{_≡_, sym, _∙_}
-use Rattle.sending.specs.declared.job.Job.the-variants.{Idle}
+use Rattle.job.specs.declared.job.Job.the-variants.{Idle}
 use Rattle.step.proofs.Idle.{idle-of}
 use borrow.Author.Needs.{needs}
 use Rattle.step.proofs.step.decide.Statement.{statement}

@@ -8,10 +8,11 @@ use mathlib.Core.Path.{_≡_, refl}
 use Rattle.reception.specs.declared.hearing.Event.{Event}
 use Rattle.reception.specs.declared.hearing.Event.the-variants.{Inside, Kept, Skipped, Alone, Ended, TickHunting, TickInside, Aborted}
 use Rattle.reception.proofs.hearing.Event.{the-type}
-use Rattle.sending.specs.Rules.{base}
-use Rattle.sending.specs.Job.{act, goesOn}
-use Rattle.sending.specs.declared.job.Job.the-variants.{Idle}
-use Rattle.sending.specs.declared.report.Sending.the-variants as sending
+use Rattle.job.specs.Rules.{base}
+use Rattle.job.specs.Job.{goesOn}
+use Rattle.sending.specs.Events.{act}
+use Rattle.job.specs.declared.job.Job.the-variants.{Idle}
+use Rattle.job.specs.declared.report.Sending.the-variants as sending
 use Rattle.step.proofs.Idle.{idle-ended}
 use borrow.Author.Needs.{needs}
 use Rattle.step.proofs.step.stray_on.Statement.{statement}

@@ -3,7 +3,7 @@
 use mathlib.Core.Path.{sym, _∙_}
 use lib.ListN.{length}
 use denote.Ref.{now}
-use Rattle.sending.specs.Rules.{base}
+use Rattle.job.specs.Rules.{base}
 use Rattle.step.specs.declared.checks.Checked.the-variants.{Passes}
 use Rattle.step.proofs.Passed.{has-room}
 use Rattle.step.proofs.Puts.{line-in, up-in}

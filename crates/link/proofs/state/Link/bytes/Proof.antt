@@ -3,9 +3,9 @@
 use mathlib.Core.Path.{sym, ap, _∙_}
 use lib.ListN.{length}
 use denote.Ref.{now}
-use Rattle.sending.specs.Rules.{base}
+use Rattle.job.specs.Rules.{base}
 use Rattle.frame.specs.Bytes.{over}
-use Rattle.reception.specs.Run.{Far}
+use Rattle.run.specs.Run.{Far}
 use Rattle.step.specs.declared.checks.Checked.the-variants.{Passes}
 use Rattle.step.proofs.Passed.{has-room}
 use Rattle.step.proofs.Puts.{line-in, up-in}
