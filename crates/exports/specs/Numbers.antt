@@ -13,15 +13,15 @@ use Rattle.frame.specs.declared.reader.Reading.{Reading}
 use Rattle.frame.specs.declared.reader.Reading.the-variants as reading
 use Rattle.frame.specs.declared.refusal.Refusal.{Refusal}
 use Rattle.units.specs.declared.Millis.{Millis}
-use Rattle.step.specs.declared.report.Reception.{Reception}
-use Rattle.step.specs.declared.report.Reception.the-variants as reception
+use Rattle.report.specs.declared.report.Reception.{Reception}
+use Rattle.report.specs.declared.report.Reception.the-variants as reception
 use Rattle.job.specs.declared.report.Sending.{Sending}
 use Rattle.job.specs.declared.report.Sending.the-variants as sending
 use Rattle.job.specs.declared.report.Session.{Session}
 use Rattle.job.specs.declared.report.Session.the-variants as session
 use Rattle.job.specs.declared.report.Reset.{Reset}
 use Rattle.job.specs.declared.report.Reset.the-variants as reset
-use Rattle.step.specs.declared.report.Report.{Report}
+use Rattle.report.specs.declared.report.Report.{Report}
 use Rattle.link.specs.declared.calls.Answer.{Answer}
 use Rattle.link.specs.declared.calls.Answer.the-variants as answer
 use Rattle.link.specs.declared.calls.RunAnswer.{RunAnswer}

@@ -4,8 +4,8 @@ use job::Sending;
 use job::Session;
 use link::Answer;
 use link::RunAnswer;
-use step::Reception;
-use step::Report;
+use report::Reception;
+use report::Report;
 ghost use mathlib.Core.Path.{_≡_};
 ghost use Rattle.exports.specs.Numbers as spec;
 

@@ -12,7 +12,7 @@ use Rattle.job.specs.Rules.{Rules, told}
 use Rattle.reception.specs.Hearing.{heardByte, heardTick}
 use Rattle.job.specs.Job.{still}
 use Rattle.sending.specs.Events.{onSingle, awaits, copiesOf, act}
-use Rattle.step.specs.Report.{replyBytes, saidEnd, saidOn, sumsOn, newsReception, newsSending}
+use Rattle.report.specs.Report.{replyBytes, saidEnd, saidOn, sumsOn, newsReception, newsSending}
 use Rattle.step.specs.Step.{outcome, decision, decideOn}
 use Rattle.link.specs.Step.{Out, Taken, out, byteBy, byteOut, tickOut, news, quiet, runFrom, runOut}
 use Rattle.reception.specs.declared.hearing.Hearing.{Hearing}
@@ -28,12 +28,12 @@ use Rattle.job.specs.declared.job.Asking.{Asking}
 use Rattle.job.specs.declared.job.Asking.the-variants.{Plain, Asks}
 use Rattle.job.specs.declared.job.Job.{Job}
 use Rattle.job.specs.declared.job.Job.the-variants.{Idle, Due, Waiting, BackingOff, Awaiting}
-use Rattle.step.specs.declared.report.Reception.{Reception}
-use Rattle.step.specs.declared.report.Reception.the-variants as reception
-use Rattle.step.specs.declared.report.Reply.{Reply}
-use Rattle.step.specs.declared.report.Reply.the-variants as reply
-use Rattle.step.specs.declared.report.Said.{Said}
-use Rattle.step.specs.declared.report.Sums.{Sums}
+use Rattle.report.specs.declared.report.Reception.{Reception}
+use Rattle.report.specs.declared.report.Reception.the-variants as reception
+use Rattle.report.specs.declared.report.Reply.{Reply}
+use Rattle.report.specs.declared.report.Reply.the-variants as reply
+use Rattle.report.specs.declared.report.Said.{Said}
+use Rattle.report.specs.declared.report.Sums.{Sums}
 use Rattle.link.specs.declared.state.Link.{Link}
 use Rattle.history.specs.Watch.{Verdict, copiesIn, isFailure, Says, none, says, verdictIn, verdictOf}
 use Rattle.history.proofs.Mix.{Mix, end as finish, one, copy, mix-append}

@@ -17,7 +17,7 @@ use Rattle.reception.specs.Hearing.{heardByte, heardTick, hunted, keep, isHunti
 use Rattle.job.specs.Job.{start, lose}
 use Rattle.job.specs.Ticks.{onTick, onAbort}
 use Rattle.sending.specs.Events.{onSingle, onEnd, release, awaits, act}
-use Rattle.step.specs.Report.{sumsEnd, sumsOn}
+use Rattle.report.specs.Report.{sumsEnd, sumsOn}
 use Rattle.link.specs.State.{noBody, noFrame}
 use Rattle.link.specs.Step.{Out, byteOut, tickOut, openOut}
 use Rattle.reception.specs.declared.hearing.Hearing.{Hearing}

@@ -21,7 +21,7 @@ use Rattle.reception.specs.declared.hearing.Partial.{Partial}
 use Rattle.reception.specs.declared.hearing.Hearing.the-variants.{Hunting, Head, Body}
 use Rattle.reception.specs.declared.hearing.End.the-variants as end
 use Rattle.reception.specs.declared.hearing.Event.the-variants.{Inside, Kept, Ended}
-use Rattle.step.specs.declared.report.Reception.the-variants as reception
+use Rattle.report.specs.declared.report.Reception.the-variants as reception
 use Rattle.link.specs.declared.state.Link.{Link}
 use Rattle.history.specs.Received.{feed}
 use Rattle.history.proofs.Bodies.{partialOf, more-is}

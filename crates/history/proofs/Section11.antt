@@ -14,7 +14,7 @@ use Rattle.reception.specs.Hearing.{heard, heardByte, heardTick, begun, more, e
 use Rattle.job.specs.Job.{nextCopy, putOut}
 use Rattle.job.specs.Ticks.{onTick, onAbort}
 use Rattle.sending.specs.Events.{release, awaits, onEnd, act}
-use Rattle.step.specs.Report.{replyBytes, saidEnd, saidOn}
+use Rattle.report.specs.Report.{replyBytes, saidEnd, saidOn}
 use Rattle.step.specs.Step.{decideOn}
 use Rattle.link.specs.Step.{Out, out, byteBy, byteOut, tickOut}
 use Rattle.reception.specs.declared.hearing.Partial.{Partial}
@@ -28,9 +28,9 @@ use Rattle.job.specs.declared.job.Act.{Act}
 use Rattle.job.specs.declared.job.Asking.{Asking}
 use Rattle.job.specs.declared.job.Job.{Job}
 use Rattle.job.specs.declared.job.Job.the-variants.{Idle, Due, Waiting, BackingOff, Awaiting}
-use Rattle.step.specs.declared.report.Reception.the-variants as reception
-use Rattle.step.specs.declared.report.Reply.{Reply}
-use Rattle.step.specs.declared.report.Reply.the-variants as reply
+use Rattle.report.specs.declared.report.Reception.the-variants as reception
+use Rattle.report.specs.declared.report.Reply.{Reply}
+use Rattle.report.specs.declared.report.Reply.the-variants as reply
 use Rattle.job.specs.declared.report.Reset.the-variants as reset
 use Rattle.job.specs.declared.report.Sending.{Sending}
 use Rattle.job.specs.declared.report.Sending.the-variants as sending

@@ -7,6 +7,7 @@ use link::Answered;
 use link::Link;
 use link::Ran;
 use link::RunAnswer;
+use report::Report;
 use script::LinkVerb;
 use script::behind;
 use script::is_spilled;
@@ -20,7 +21,6 @@ use script::put_refused;
 use script::restore;
 use script::spelt_at;
 use script::times_of;
-use step::Report;
 
 // What lasts from call to call.
 pub struct Player {

@@ -2,13 +2,13 @@
 use job::Reset;
 use job::Sending;
 use job::Session;
+use report::Reception;
+use report::Report;
 use script::numbered;
 use script::plain;
 use script::put;
 use script::put_nth;
 use script::put_one;
-use step::Reception;
-use step::Report;
 
 fn put_reception(part: Reception, out: &mut [u8], waiting: usize) -> usize {
     let place = match part {

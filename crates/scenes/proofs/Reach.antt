@@ -17,7 +17,7 @@ use Rattle.frame.specs.Frame.{frameOf}
 use Rattle.job.specs.Rules.{Rules, time, base}
 use Rattle.job.specs.Job.{goesOn, still, putOut, fail}
 use Rattle.job.specs.Ticks.{onTick}
-use Rattle.step.specs.Report.{saidOn, sumsOn}
+use Rattle.report.specs.Report.{saidOn, sumsOn}
 use Rattle.link.specs.State.{noBody, noFrame}
 use Rattle.step.specs.Step.{outcome, decision}
 use Rattle.link.specs.Step.{Out, out, byteOut, tickOut, openOut}

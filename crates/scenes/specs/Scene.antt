@@ -7,7 +7,7 @@ use Rattle.frame.specs.declared.refusal.Refusal.{Refusal}
 use Rattle.job.specs.Rules.{Rules}
 use Rattle.link.specs.State.{freshLink}
 use Rattle.link.specs.Step.{news}
-use Rattle.step.specs.declared.report.Reception.{Reception}
+use Rattle.report.specs.declared.report.Reception.{Reception}
 use Rattle.job.specs.declared.report.Reset.{Reset}
 use Rattle.job.specs.declared.report.Sending.{Sending}
 use Rattle.job.specs.declared.report.Session.{Session}

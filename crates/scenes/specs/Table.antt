@@ -6,8 +6,8 @@ use lib.ListN.{replicate}
 use Rattle.frame.specs.declared.builder.Built.the-variants.{Frame}
 use Rattle.frame.specs.declared.reader.Reading.the-variants.{Refused}
 use Rattle.frame.specs.declared.refusal.Refusal.the-variants as refusal
-use Rattle.step.specs.declared.report.Reception.{Reception}
-use Rattle.step.specs.declared.report.Reception.the-variants as reception
+use Rattle.report.specs.declared.report.Reception.{Reception}
+use Rattle.report.specs.declared.report.Reception.the-variants as reception
 use Rattle.job.specs.declared.report.Reset.{Reset}
 use Rattle.job.specs.declared.report.Reset.the-variants as reset
 use Rattle.job.specs.declared.report.Sending.{Sending}

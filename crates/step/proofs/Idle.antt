@@ -12,7 +12,7 @@ use Rattle.job.specs.declared.report.Reset.the-variants as reset
 use Rattle.job.specs.declared.report.Sending.the-variants as sending
 use Rattle.job.specs.Job.{goesOn, isOpen}
 use Rattle.sending.specs.Events.{onEnd}
-use Rattle.step.specs.Report.{either}
+use Rattle.report.specs.Report.{either}
 
 -- with no job open no reset is the sender's
 pub either-none : (x : Reset) → either x reset.Nothing ≡ x

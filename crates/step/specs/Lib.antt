@@ -1,5 +1,3 @@
-pub mod Report
 pub mod State
 pub mod Step
 pub mod Checks
-pub mod Writing

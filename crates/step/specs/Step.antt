@@ -2,10 +2,9 @@
 -- Assumes nothing.
 use Prim.Native.Nat.{ℕ}
 use mathlib.Core.Bool.{Bool, false}
-use lib.ListN.{length}
 use Rattle.job.specs.Rules.{Rules}
 use Rattle.sending.specs.Events.{act}
-use Rattle.step.specs.Report.{said, saidOn, sums, sumsOn, either}
+use Rattle.report.specs.Report.{said, saidOn, sums, sumsOn, either}
 use Rattle.reception.specs.declared.hearing.Event.{Event}
 use Rattle.reception.specs.declared.hearing.Heard.{Heard}
 use Rattle.reception.specs.declared.hearing.Hearing.{Hearing}
@@ -13,17 +12,16 @@ use Rattle.reception.specs.declared.hearing.Hearing.the-variants.{Hunting}
 use Rattle.job.specs.declared.job.Act.{Act}
 use Rattle.job.specs.declared.job.Job.{Job}
 use Rattle.job.specs.declared.job.Job.the-variants.{Idle}
-use Rattle.step.specs.declared.report.Reception.{Reception}
-use Rattle.step.specs.declared.report.Reception.the-variants as reception
-use Rattle.step.specs.declared.report.Reply.{Reply}
-use Rattle.step.specs.declared.report.Reply.the-variants.{Silent, Nak}
+use Rattle.report.specs.declared.report.Reception.{Reception}
+use Rattle.report.specs.declared.report.Reception.the-variants as reception
+use Rattle.report.specs.declared.report.Reply.{Reply}
+use Rattle.report.specs.declared.report.Reply.the-variants.{Silent, Nak}
 use Rattle.job.specs.declared.report.Reset.{Reset}
 use Rattle.job.specs.declared.report.Reset.the-variants as reset
 use Rattle.job.specs.declared.report.Sending.{Sending}
 use Rattle.job.specs.declared.report.Session.{Session}
-use Rattle.step.specs.declared.report.Said.{Said}
-use Rattle.step.specs.declared.report.Sums.{Sums}
-use Rattle.step.specs.declared.report.Report.{Report}
+use Rattle.report.specs.declared.report.Said.{Said}
+use Rattle.report.specs.declared.report.Sums.{Sums}
 use Rattle.step.specs.declared.state.Core.{Core}
 use Rattle.step.specs.declared.step.Outcome.{Outcome}
 
@@ -102,7 +100,3 @@ restarting a =
 
 abbrev pub restarted : Act → Decision
 restarted a = decision Hunting 0 (restarting a)
-
--- the report of an outcome, with the numbers of bytes
-abbrev pub reported : Outcome → ℕ → ℕ → Report
-reported o line up = record { reception = o .reception; sending = o .sending; session = o .session; reset = o .reset; line = line; up = up }

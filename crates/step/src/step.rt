@@ -1,16 +1,5 @@
 // One step of the link, on numbers alone: what reception says of an event, the run of bad sums, and the job's act on it.
 // Hearing is no part of it: that way it stays in registers while a call decides.
-use crate::report::Reception;
-use crate::report::Reply;
-use crate::report::Report;
-use crate::report::Said;
-use crate::report::Sums;
-use crate::report::either;
-use crate::report::run_of;
-use crate::report::said_on;
-use crate::report::saying;
-use crate::report::sums_on;
-use crate::state::Core;
 use job::Act;
 use job::Asking;
 use job::Job;
@@ -22,7 +11,13 @@ use job::on_abort;
 use job::on_tick;
 use job::start;
 use reception::Event;
-use reception::Hearing;
+use report::Reception;
+use report::Reply;
+use report::Said;
+use report::Sums;
+use report::either;
+use report::said_on;
+use report::sums_on;
 use sending::on_event;
 use sending::on_restart;
 ghost use mathlib.Core.Path.{_≡_};
@@ -32,7 +27,7 @@ ghost use Rattle.job.specs.Job as jobs;
 ghost use Rattle.sending.specs.Events as events;
 ghost use Rattle.job.specs.declared.job.Job.the-variants as job;
 ghost use Rattle.step.specs.Step as spec;
-ghost use Rattle.step.specs.declared.report.Reception.the-variants as reception;
+ghost use Rattle.report.specs.declared.report.Reception.the-variants as reception;
 
 // What a call decides, before a lent byte is written; hearing and the held frame's length stand beside it.
 pub struct Outcome {
@@ -131,8 +126,15 @@ pub fn decide(job: Job, bad: u8, size: u16, event: Event) -> Outcome
 fn told(reception: Reception, bad: u8, act: Act) -> Outcome
     ensures { λ r. ⌜ r ≡ spec.told reception bad act ⌝ }
 {
-    let said = saying(reception, Reply::Silent, 0);
-    let sums = run_of(bad, Reset::Nothing);
+    let said = Said {
+        reception: reception,
+        reply: Reply::Silent,
+        up: 0,
+    };
+    let sums = Sums {
+        bad: bad,
+        reset: Reset::Nothing,
+    };
     decided(said, sums, act)
 }
 
@@ -174,36 +176,5 @@ pub fn restarting(job: Job) -> Outcome
         reply: Reply::Nak,
         copy: false,
         up: 0,
-    }
-}
-
-// The report of an outcome, with the numbers of bytes written.
-pub fn report_of(outcome: Outcome, line: u16, up: u16) -> Report
-    ensures { λ r. ⌜ r ≡ spec.reported outcome line up ⌝ }
-{
-    let reception = outcome.reception;
-    let sending = outcome.sending;
-    let session = outcome.session;
-    let reset = outcome.reset;
-    Report {
-        reception: reception,
-        sending: sending,
-        session: session,
-        reset: reset,
-        line: line,
-        up: up,
-    }
-}
-
-// The numbers of the next link.
-pub fn core_of(outcome: Outcome, hearing: Hearing, size: u16) -> Core
-    ensures { λ r. ⌜ r ≡ spec.decision hearing size outcome .core ⌝ }
-{
-    let job = outcome.job;
-    Core {
-        hearing: hearing,
-        job: job,
-        bad: outcome.bad,
-        size: size,
     }
 }

@@ -1,6 +1,6 @@
 -- `step::step::decide_idle` meets its contract.
 -- Assumes nothing.
-use Rattle.step.specs.Report.{sumsOn}
+use Rattle.report.specs.Report.{sumsOn}
 use Rattle.step.proofs.Idle.{either-none}
 use borrow.Author.Needs.{needs}
 use Rattle.step.proofs.step.decide_idle.Statement.{statement}

@@ -6,7 +6,7 @@ use denote.Ref.{now}
 use Rattle.job.specs.Rules.{base}
 use Rattle.step.specs.declared.checks.Checked.the-variants.{Passes}
 use Rattle.step.proofs.Passed.{has-room}
-use Rattle.step.proofs.Puts.{line-in, up-in}
+use Rattle.writing.proofs.Puts.{line-in, up-in}
 use Rattle.link.specs.Step.{byteOut}
 use Rattle.link.proofs.Sizes.{sizes}
 use Rattle.link.proofs.Ways.{short, roomy, refuse, give}

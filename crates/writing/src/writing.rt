@@ -1,0 +1,70 @@
+// The only writer of lent buffers: what a step puts on the line and hands up.
+use report::Reply;
+use step::Outcome;
+ghost use mathlib.Core.Path.{_≡_};
+ghost use mathlib.Core.List.{[]};
+ghost use Prim.Native.Nat.{min};
+ghost use Rattle.frame.specs.Pick.{pick};
+ghost use Rattle.report.specs.Report.{replyBytes};
+ghost use Rattle.writing.specs.Writing.{Put, byteFits, OnLine, HandedUp};
+
+fn least(n: usize, cap: usize) -> usize
+    ensures { λ r. ⌜ r ≡ min n cap ⌝ }
+{
+    if n <= cap {
+        return n;
+    }
+    cap
+}
+
+// Writes the single byte, where there is one, if the line is not empty; returns how many bytes.
+pub fn put_reply(reply: Reply, line: &mut [u8]) -> u16
+    ensures { λ r. ⌜ Put (pick (byteFits (now (line .entry))) (replyBytes reply) []) (now (line .entry)) r (now (line .exit)) ⌝ }
+{
+    if line.len() < 1 {
+        return 0;
+    }
+    match reply {
+        Reply::Silent => 0,
+        Reply::Ack => {
+            line[0] = 6;
+            1
+        }
+        Reply::Nak => {
+            line[0] = 21;
+            1
+        }
+    }
+}
+
+// Writes the single byte and the copy behind it, if there is room for both; returns how many bytes.
+pub fn put_line(outcome: Outcome, size: u16, frame: &[u8], line: &mut [u8]) -> u16
+    ensures { λ r. ⌜ OnLine (outcome .reply) (outcome .copy) size (now (frame .entry)) (now (line .entry)) r (now (line .exit)) ⌝ }
+{
+    if 257 < frame.len() {
+        return 0;
+    }
+    if line.len() <= frame.len() {
+        return 0;
+    }
+    let reply = outcome.reply;
+    let at = put_reply(reply, line);
+    if outcome.copy {
+        let n = least(size as usize, frame.len());
+        frame::lay(frame, n, line, at as usize);
+        return at + n as u16;
+    }
+    at
+}
+
+// Writes the body's first bytes, if there is room for all of it; returns how many.
+pub fn put_up(body: &[u8], n: u8, up: &mut [u8]) -> u16
+    ensures { λ r. ⌜ HandedUp n (now (body .entry)) (now (up .entry)) r (now (up .exit)) ⌝ }
+{
+    if up.len() < body.len() {
+        return 0;
+    }
+    let k = least(n as usize, body.len());
+    frame::lay(body, k, up, 0);
+    k as u16
+}
