@@ -2,5 +2,4 @@ pub mod Folds
 pub mod Over
 pub mod Framing
 pub mod Picks
-pub mod Whole
 pub mod Theorems

@@ -3,4 +3,3 @@ pub mod Refusals
 pub mod Bytes
 pub mod Frame
 pub mod Builder
-pub mod Reader

@@ -1,11 +1,11 @@
--- `frame::reader::read` meets its contract: each answer is the one that its tests pick.
+-- `reading::reader::read` meets its contract: each answer is the one that its tests pick.
 -- Assumes nothing.
 use native.Mathlib.Nat.{add-sub-cancel}
 use native.Mathlib.Omega.{arith}
 use borrow.Author.Tests.{lt-ltb, le-ltb, eq-eqb, ne-eqb}
 use borrow.Author.Needs.{needs}
-use Rattle.frame.proofs.reader.read.Statement.{statement}
-use Rattle.frame.proofs.reader.read.Tie as tie
+use Rattle.reading.proofs.reader.read.Statement.{statement}
+use Rattle.reading.proofs.reader.read.Tie as tie
 
 returns : tie.Need-returns
 returns c = simp (eq-eqb _ _ (c .if1 .taken))

@@ -1,9 +1,9 @@
--- `frame::reader::measured` meets its contract: each answer is the one that its tests pick.
+-- `reading::reader::measured` meets its contract: each answer is the one that its tests pick.
 -- Assumes nothing.
 use borrow.Author.Tests.{lt-ltb, le-ltb, eq-eqb, ne-eqb}
 use borrow.Author.Needs.{needs}
-use Rattle.frame.proofs.reader.measured.Statement.{statement}
-use Rattle.frame.proofs.reader.measured.Tie as tie
+use Rattle.reading.proofs.reader.measured.Statement.{statement}
+use Rattle.reading.proofs.reader.measured.Tie as tie
 
 returns : tie.Need-returns
 returns c = simp (ne-eqb _ _ (c .if1 .taken))

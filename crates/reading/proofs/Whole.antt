@@ -9,11 +9,11 @@ use lib.Dec.{ltb, eqb}
 use lib.ListN.{length, getD, take, drop, length-drop}
 use lib.Seq.{take-at, take-all, take-suc, length-take-le}
 use borrow.Author.Tests.{le-ltb, eq-eqb, ne-eqb, ltb-false, eqb-true}
 use Rattle.frame.specs.declared.refusal.Refusal.{Refusal}
-use Rattle.frame.specs.declared.reader.Reading.the-variants.{Refused, Parts}
+use Rattle.reading.specs.declared.reader.Reading.the-variants.{Refused, Parts}
 use Rattle.frame.specs.Frame.{checksum, frameOf}
-use Rattle.frame.specs.Reader.{readingOf, parametersOf}
+use Rattle.reading.specs.Reader.{readingOf, parametersOf}
 use Rattle.frame.proofs.Picks.{picked-first, picked-second}
 
 pub record Whole (bytes : List ℕ) (kind command n : ℕ) : Type 0 where
   pub first : getD bytes 0 0 ≡ 1

@@ -1,13 +1,13 @@
 // Reading a whole frame (sections 2 and 3).
-use crate::bytes::fold;
-use crate::refusal::Refusal;
+use frame::Refusal;
+use frame::fold;
 ghost use mathlib.Core.Path.{_≡_};
 ghost use Prim.Native.Nat.{_-_, _≤_};
 ghost use lib.Dec.{ltb, eqb};
 ghost use Rattle.frame.specs.Pick.{pick};
-ghost use Rattle.frame.specs.Reader.{readingOf};
+ghost use Rattle.reading.specs.Reader.{readingOf};
 ghost use Rattle.frame.specs.declared.refusal.Refusal.the-variants.{Sum, Kind};
-ghost use Rattle.frame.specs.declared.reader.Reading.the-variants.{Refused, Parts};
+ghost use Rattle.reading.specs.declared.reader.Reading.the-variants.{Refused, Parts};
 
 pub enum Reading {
     Refused(Refusal),

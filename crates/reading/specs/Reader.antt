@@ -4,11 +4,11 @@ use Prim.Native.Nat.{ℕ, _+_, _-_}
 use mathlib.Core.List.{List}
 use lib.Dec.{ltb, eqb}
 use lib.ListN.{length, getD, take, drop}
 use Rattle.frame.specs.Pick.{pick}
 use Rattle.frame.specs.Frame.{checksum}
 use Rattle.frame.specs.declared.refusal.Refusal.the-variants as refusal
-use Rattle.frame.specs.declared.reader.Reading.{Reading}
-use Rattle.frame.specs.declared.reader.Reading.the-variants.{Refused, Parts}
+use Rattle.reading.specs.declared.reader.Reading.{Reading}
+use Rattle.reading.specs.declared.reader.Reading.the-variants.{Refused, Parts}
 
 -- of bytes that are as many as their Length says: SUM, KIND, and the parts
 abbrev pub measuredOf : List ℕ → ℕ → Reading
