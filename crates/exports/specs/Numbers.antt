@@ -9,9 +9,9 @@ use Rattle.frame.specs.Builder.{builtOf, leftBy}
 use Rattle.frame.specs.Frame.{frameOf}
 use Rattle.frame.specs.declared.builder.Built.{Built}
 use Rattle.frame.specs.declared.builder.Built.the-variants as built
-use Rattle.frame.specs.declared.reader.Reading.{Reading}
-use Rattle.frame.specs.declared.reader.Reading.the-variants as reading
 use Rattle.frame.specs.declared.refusal.Refusal.{Refusal}
+use Rattle.reading.specs.declared.reader.Reading.{Reading}
+use Rattle.reading.specs.declared.reader.Reading.the-variants as reading
 use Rattle.units.specs.declared.Millis.{Millis}
 use Rattle.report.specs.declared.report.Reception.{Reception}
 use Rattle.report.specs.declared.report.Reception.the-variants as reception

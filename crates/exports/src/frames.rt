@@ -1,9 +1,9 @@
 // Building and reading a frame.
 use crate::sums::REFUSED;
 use frame::Built;
-use frame::Reading;
+use reading::Reading;
 ghost use mathlib.Core.Path.{_≡_};
-ghost use Rattle.frame.specs.Reader.{readingOf};
+ghost use Rattle.reading.specs.Reader.{readingOf};
 ghost use Rattle.exports.specs.Numbers as spec;
 ghost use Rattle.exports.specs.Numbers.{BuiltAs};
 
@@ -43,6 +43,6 @@ pub extern "C" fn sarnaqel_build(kind: u8, command: u8, parameters: &[u8], lent:
 pub extern "C" fn sarnaqel_read(bytes: &[u8]) -> u64
     ensures { λ r. ⌜ r ≡ spec.readingNumber (readingOf (now (bytes .entry))) ⌝ }
 {
-    let reading = frame::read(bytes);
+    let reading = reading::read(bytes);
     reading_number(reading)
 }

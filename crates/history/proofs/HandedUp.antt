@@ -10,7 +10,7 @@ use lib.Seq.{take-suc-set}
 use borrow.Author.Tests.{ltb-true, ltb-false, eqb-true}
 use Rattle.frame.specs.Bytes.{xorAll}
 use Rattle.frame.specs.Frame.{frameOf}
-use Rattle.frame.proofs.Theorems.{built-reads}
+use Rattle.reading.proofs.Theorems.{built-reads}
 use Rattle.job.specs.Rules.{Rules}
 use Rattle.reception.specs.Hearing.{heard, heardByte, heardTick, hunted, more, ended, later, keep}
 use Rattle.link.specs.State.{freshLink, noBody}

@@ -5,8 +5,8 @@ use mathlib.Core.Path.{_≡_}
 use mathlib.Core.List.{List, [], _∷_, _++_}
 use lib.ListN.{length}
 use Rattle.frame.specs.Frame.{frameOf}
-use Rattle.frame.specs.Reader.{readingOf}
-use Rattle.frame.specs.declared.reader.Reading.the-variants.{Parts}
+use Rattle.reading.specs.Reader.{readingOf}
+use Rattle.reading.specs.declared.reader.Reading.the-variants.{Parts}
 use Rattle.link.specs.Step.{Out}
 
 -- with the bytes received so far, the last one included

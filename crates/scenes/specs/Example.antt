@@ -6,9 +6,9 @@ use mathlib.Core.List.{List, [], _∷_}
 use lib.ListN.{length}
 use Rattle.frame.specs.Frame.{frameOf}
 use Rattle.frame.specs.Builder as builder
-use Rattle.frame.specs.Reader.{readingOf}
 use Rattle.frame.specs.declared.builder.Built.{Built}
-use Rattle.frame.specs.declared.reader.Reading.{Reading}
+use Rattle.reading.specs.Reader.{readingOf}
+use Rattle.reading.specs.declared.reader.Reading.{Reading}
 use Rattle.units.specs.Units.{convertedOf}
 use Rattle.units.specs.declared.Millis.{Millis}
 use Rattle.job.specs.Rules.{base}

@@ -4,8 +4,8 @@ use Prim.Native.Nat.{ℕ}
 use mathlib.Core.List.{List, [], _∷_, _++_}
 use lib.ListN.{replicate}
 use Rattle.frame.specs.declared.builder.Built.the-variants.{Frame}
-use Rattle.frame.specs.declared.reader.Reading.the-variants.{Refused}
 use Rattle.frame.specs.declared.refusal.Refusal.the-variants as refusal
+use Rattle.reading.specs.declared.reader.Reading.the-variants.{Refused}
 use Rattle.report.specs.declared.report.Reception.{Reception}
 use Rattle.report.specs.declared.report.Reception.the-variants as reception
 use Rattle.job.specs.declared.report.Reset.{Reset}

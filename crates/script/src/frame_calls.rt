@@ -11,8 +11,8 @@ use crate::printing::put_named;
 use crate::printing::put_refused;
 use crate::verb::FrameVerb;
 use frame::Built;
-use frame::Reading;
 use frame::Refusal;
+use reading::Reading;
 
 // The line of a call without a lent buffer that was refused.
 pub fn put_no(name: &[u8], refusal: Refusal, out: &mut [u8], waiting: usize) -> usize {
@@ -67,7 +67,7 @@ fn build(bytes: &[u8], lent: &mut [u8], out: &mut [u8], waiting: usize) -> usize
 
 // The parameters of a frame that was read are `count` bytes from the fifth on.
 fn read(bytes: &[u8], out: &mut [u8], waiting: usize) -> usize {
-    match frame::read(bytes) {
+    match reading::read(bytes) {
         Reading::Refused(refusal) => put_no(b"read", refusal, out, waiting),
         Reading::Parts {
             kind,

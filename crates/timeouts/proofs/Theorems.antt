@@ -10,13 +10,14 @@ use Rattle.frame.specs.Pick.{pick}
 use Rattle.frame.specs.Bytes.{xorAll}
 use Rattle.frame.specs.Frame.{frameOf}
 use Rattle.frame.specs.Builder.{Build}
-use Rattle.frame.specs.Reader.{readingOf, parametersOf}
 use Rattle.frame.specs.declared.refusal.Refusal.{Refusal}
 use Rattle.frame.specs.declared.refusal.Refusal.the-variants as refusal
 use Rattle.frame.specs.declared.builder.Built.{Built}
 use Rattle.frame.specs.declared.builder.Built.the-variants as built
-use Rattle.frame.specs.declared.reader.Reading.the-variants.{Parts}
-use Rattle.frame.proofs.Theorems.{fixed, build-reads, build-accepts}
+use Rattle.frame.proofs.Theorems.{fixed, build-accepts}
+use Rattle.reading.specs.Reader.{readingOf, parametersOf}
+use Rattle.reading.specs.declared.reader.Reading.the-variants.{Parts}
+use Rattle.reading.proofs.Theorems.{build-reads}
 use Rattle.units.specs.Units.{convertedOf}
 use Rattle.units.specs.declared.Millis.{Millis}
 use Rattle.units.specs.declared.Ticks10.{Ticks10}

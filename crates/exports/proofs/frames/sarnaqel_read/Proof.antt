@@ -1,4 +1,4 @@
--- `exports::frames::sarnaqel_read` meets its contract: it is `frame::read`, its answer as a number.
+-- `exports::frames::sarnaqel_read` meets its contract: it is `reading::read`, its answer as a number.
 -- Assumes nothing.
 use mathlib.Core.Path.{ap, _∙_}
 use Rattle.exports.specs.Numbers.{readingNumber}
