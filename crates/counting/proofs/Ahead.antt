@@ -19,9 +19,10 @@ use Rattle.reception.specs.declared.hearing.Hearing.the-variants.{Hunting, Head
 use Rattle.reception.specs.declared.hearing.Single.the-variants.{Ack, Nak, Can}
 use Rattle.reception.specs.declared.hearing.End.the-variants.{BadSum, Reserved, Request, Response}
 use Rattle.reception.specs.declared.hearing.Event.the-variants.{Skipped, Alone}
-use Rattle.counting.specs.declared.Counts.{Counts}
-use Rattle.counting.specs.declared.Tally.{Tally}
-use Rattle.counting.specs.Counting.{endColumn, added, tallied, countedByte, countedFrom}
+use Rattle.tally.specs.declared.Counts.{Counts}
+use Rattle.tally.specs.declared.Tally.{Tally}
+use Rattle.tally.specs.Tally.{endColumn, added, tallied, countedByte}
+use Rattle.counting.specs.Counting.{countedFrom}
 use Rattle.counting.specs.Ahead.{hunting, apart, whole, Ahead, Onward}
 use Rattle.counting.proofs.Laws.{count-more}
 

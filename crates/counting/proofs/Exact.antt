@@ -13,9 +13,10 @@ use Rattle.reception.specs.Hearing.{heardByte}
 use Rattle.reception.specs.declared.hearing.Hearing.{Hearing}
 use Rattle.reception.specs.declared.hearing.Hearing.the-variants.{Hunting}
 use Rattle.reception.specs.declared.hearing.Event.{Event}
-use Rattle.counting.specs.declared.Counts.{Counts}
-use Rattle.counting.specs.declared.Tally.{Tally}
-use Rattle.counting.specs.Counting.{column, oneMore, hit, countedByte, countedFrom, fresh}
+use Rattle.tally.specs.declared.Counts.{Counts}
+use Rattle.tally.specs.declared.Tally.{Tally}
+use Rattle.tally.specs.Tally.{column, oneMore, hit, countedByte, fresh}
+use Rattle.counting.specs.Counting.{countedFrom}
 use Rattle.counting.specs.Exact.{events, behind, number, numbers}
 
 -- one column over events, from n on

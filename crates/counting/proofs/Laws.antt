@@ -9,8 +9,9 @@ use Prim.Native.Nat.{ℕ, _≤_, _<_, _+_}
 use native.Mathlib.Numerals.{add-one}
 use lib.ListN.{length, drop, getD, drop-of-length-le}
 use lib.Seq.{drop-cons}
-use Rattle.counting.specs.declared.Tally.{Tally}
-use Rattle.counting.specs.Counting.{countedByte, countedFrom}
+use Rattle.tally.specs.declared.Tally.{Tally}
+use Rattle.tally.specs.Tally.{countedByte}
+use Rattle.counting.specs.Counting.{countedFrom}
 
 module _ (t : Tally) (i : ℕ) (bytes : List ℕ) where
   pub count-end : length bytes ≤ i → countedFrom t (drop i bytes) ≡ t

@@ -6,24 +6,18 @@ use Prim.Native.Nat.{ℕ, _+_, _≤_}
 use native.Mathlib.Omega.{arith}
 use lib.ListN.{length}
 use Rattle.frame.proofs.Theorems.{fixed}
-use Rattle.reception.specs.declared.hearing.Hearing.{Hearing}
 use Rattle.reception.specs.declared.hearing.Hearing.the-variants.{Hunting}
-use Rattle.counting.specs.declared.Tally.{Tally}
-use Rattle.counting.specs.Counting.{countedFrom, fresh, openBytes}
+use Rattle.tally.specs.declared.Tally.{Tally}
+use Rattle.tally.specs.Tally.{fresh}
+use Rattle.counting.specs.Counting.{countedFrom}
 use Rattle.counting.specs.Exact.{events, behind, numbers}
 use Rattle.counting.proofs.Laws.{count-append}
 use Rattle.counting.proofs.Exact.{counted-exact, counted-behind}
 
--- Section 12: each promise determines its answer.
-
-pub fresh-determined : {r q : Tally} → r ≡ fresh → q ≡ fresh → r ≡ q
-fresh-determined = fixed
+-- Section 12: the promise determines its answer.
 
 pub count-determined : (t : Tally) (bytes : List ℕ) {r q : Tally} → r ≡ countedFrom t bytes → q ≡ countedFrom t bytes → r ≡ q
 count-determined t bytes = fixed
-
-pub open-determined : (h : Hearing) {r q : ℕ} → r ≡ openBytes h → q ≡ openBytes h → r ≡ q
-open-determined h = fixed
 
 -- An input read in pieces is counted as if it came whole.
 pub pieces-are-whole : (t : Tally) (a b : List ℕ) → countedFrom t (a ++ b) ≡ countedFrom (countedFrom t a) b

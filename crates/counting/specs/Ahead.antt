@@ -7,8 +7,8 @@ use lib.Dec.{eqb, ltb}
 use lib.ListN.{length, drop}
 use Rattle.frame.specs.Pick.{pick}
 use Rattle.reception.specs.declared.hearing.Hearing.the-variants.{Hunting}
-use Rattle.counting.specs.declared.Counts.{Counts}
-use Rattle.counting.specs.declared.Tally.{Tally}
+use Rattle.tally.specs.declared.Counts.{Counts}
+use Rattle.tally.specs.declared.Tally.{Tally}
 use Rattle.counting.specs.Counting.{countedFrom}
 
 abbrev pub hunting : Counts → Tally

@@ -7,8 +7,8 @@ use Rattle.frame.specs.Pick.{pick}
 use Rattle.reception.specs.Hearing.{heardByte}
 use Rattle.reception.specs.declared.hearing.Hearing.{Hearing}
 use Rattle.reception.specs.declared.hearing.Event.{Event}
-use Rattle.counting.specs.declared.Counts.{Counts}
-use Rattle.counting.specs.Counting.{column}
+use Rattle.tally.specs.declared.Counts.{Counts}
+use Rattle.tally.specs.Tally.{column}
 
 -- What the bytes are heard as, one event to a byte.
 unfoldable pub events : Hearing → List ℕ → List Event

@@ -1,147 +1,13 @@
-// Counting (document 01, section 9): what stands in raw bytes, heard as the link hears them, with no ticks.
-use reception::End;
-use reception::Event;
+// Counting (document 01, section 9): what stands in raw bytes, many bytes at once where no frame is cut short.
 use reception::Hearing;
-use reception::Single;
+use tally::Counts;
+use tally::Tally;
 ghost use mathlib.Core.Path.{_≡_};
 ghost use Prim.Native.Nat.{_<_, _≤_};
 ghost use lib.ListN.{length, getD};
-ghost use Rattle.counting.specs.Counting as spec;
-ghost use Rattle.counting.specs.Ahead as ahead;
-ghost use Rattle.counting.specs.Ahead.{Ahead, Onward, hunting};
-
-// How many of each, in the order printed.
-pub struct Counts {
-    pub ack: u64,
-    pub nak: u64,
-    pub can: u64,
-    pub frames: u64,
-    pub badsum: u64,
-    pub badlen: u64,
-    pub reserved: u64,
-    pub skipped: u64,
-}
-
-// Where the hearing stands, and what has been counted.
-pub struct Tally {
-    pub hearing: Hearing,
-    pub counts: Counts,
-}
-
-// Before the first byte.
-pub fn fresh() -> Tally
-    ensures { λ r. ⌜ r ≡ spec.fresh ⌝ }
-{
-    let counts = Counts {
-        ack: 0,
-        nak: 0,
-        can: 0,
-        frames: 0,
-        badsum: 0,
-        badlen: 0,
-        reserved: 0,
-        skipped: 0,
-    };
-    Tally {
-        hearing: Hearing::Hunting,
-        counts: counts,
-    }
-}
-
-// One more. A caller may hand in any counts, so the largest number stays: that way every call is total, and the sum never wraps.
-// A count gets at most 1 for each byte, so none that began at 0 meets this below 2^64 bytes, and section 9 ends at 2^24.
-fn one_more(n: u64) -> u64
-    ensures { λ r. ⌜ r ≡ spec.oneMore n ⌝ }
-{
-    if n < 18446744073709551615 {
-        return n + 1;
-    }
-    n
-}
-
-fn count_single(counts: Counts, single: Single) -> Counts
-    ensures { λ r. ⌜ r ≡ spec.added (spec.singleColumn single) counts ⌝ }
-{
-    let mut next = counts;
-    match single {
-        Single::Ack => {
-            next.ack = one_more(counts.ack);
-            next
-        }
-        Single::Nak => {
-            next.nak = one_more(counts.nak);
-            next
-        }
-        Single::Can => {
-            next.can = one_more(counts.can);
-            next
-        }
-    }
-}
-
-fn count_end(counts: Counts, end: End) -> Counts
-    ensures { λ r. ⌜ r ≡ spec.added (spec.endColumn end) counts ⌝ }
-{
-    let mut next = counts;
-    match end {
-        End::Request { size: _ } => {
-            next.frames = one_more(counts.frames);
-            next
-        }
-        End::Response {
-            size: _,
-            command: _,
-        } => {
-            next.frames = one_more(counts.frames);
-            next
-        }
-        End::BadSum => {
-            next.badsum = one_more(counts.badsum);
-            next
-        }
-        End::BadLength => {
-            next.badlen = one_more(counts.badlen);
-            next
-        }
-        End::Reserved => {
-            next.reserved = one_more(counts.reserved);
-            next
-        }
-    }
-}
-
-fn count_event(counts: Counts, event: Event) -> Counts
-    ensures { λ r. ⌜ r ≡ spec.added (spec.column event) counts ⌝ }
-{
-    match event {
-        Event::Alone(single) => count_single(counts, single),
-        Event::Ended(end) => count_end(counts, end),
-        Event::Skipped => {
-            let mut next = counts;
-            next.skipped = one_more(counts.skipped);
-            next
-        }
-        Event::Inside => counts,
-        Event::Kept { at: _ } => counts,
-        Event::TickHunting => counts,
-        Event::TickInside => counts,
-        Event::Aborted => counts,
-    }
-}
-
-fn count_byte(tally: Tally, b: u8) -> Tally
-    ensures { λ r. ⌜ r ≡ spec.countedByte b tally ⌝ }
-{
-    let hearing = tally.hearing;
-    let heard = reception::hear_byte(hearing, b);
-    let event = heard.event;
-    let after = heard.hearing;
-    let counts = count_event(tally.counts, event);
-    Tally {
-        hearing: after,
-        counts: counts,
-    }
-}
+ghost use Rattle.tally.specs.Tally.{added};
+ghost use Rattle.counting.specs.Counting.{countedFrom};
+ghost use Rattle.counting.specs.Ahead.{Ahead, Onward, hunting, apart, whole};
 
 // Counts part of the way through the bytes: those before `at` are counted, and the hearing hunts there.
 struct Stretch {
@@ -157,47 +23,47 @@ struct Turn {
 
 // A byte while hunting that begins no frame.
 fn count_apart(counts: Counts, b: u8) -> Counts
-    ensures { λ r. ⌜ r ≡ spec.added (ahead.apart b) counts ⌝ }
+    ensures { λ r. ⌜ r ≡ added (apart b) counts ⌝ }
 {
     let mut next = counts;
     if b == 6 {
-        next.ack = one_more(counts.ack);
+        next.ack = tally::one_more(counts.ack);
         return next;
     }
     if b == 21 {
-        next.nak = one_more(counts.nak);
+        next.nak = tally::one_more(counts.nak);
         return next;
     }
     if b == 24 {
-        next.can = one_more(counts.can);
+        next.can = tally::one_more(counts.can);
         return next;
     }
-    next.skipped = one_more(counts.skipped);
+    next.skipped = tally::one_more(counts.skipped);
     next
 }
 
 // A frame that lies whole in the bytes, by its checksum and its Type.
 fn count_whole(counts: Counts, kind: u8, sum: u8, check: u8) -> Counts
-    ensures { λ r. ⌜ r ≡ spec.added (ahead.whole kind sum check) counts ⌝ }
+    ensures { λ r. ⌜ r ≡ added (whole kind sum check) counts ⌝ }
 {
     let mut next = counts;
     if check == sum {
         if kind < 2 {
-            next.frames = one_more(counts.frames);
+            next.frames = tally::one_more(counts.frames);
             return next;
         }
-        next.reserved = one_more(counts.reserved);
+        next.reserved = tally::one_more(counts.reserved);
         return next;
     }
-    next.badsum = one_more(counts.badsum);
+    next.badsum = tally::one_more(counts.badsum);
     next
 }
 
 fn count_bad_length(counts: Counts) -> Counts
-    ensures { λ r. ⌜ r ≡ spec.added 5 counts ⌝ }
+    ensures { λ r. ⌜ r ≡ added 5 counts ⌝ }
 {
     let mut next = counts;
-    next.badlen = one_more(counts.badlen);
+    next.badlen = tally::one_more(counts.badlen);
     next
 }
 
@@ -292,7 +158,7 @@ fn single(tally: Tally, bytes: &[u8], i: usize) -> Turn
     requires { ⌜ i < length (now bytes) ⌝ }
     ensures { λ r. ⌜ Onward (now (bytes .entry)) tally i (r .tally) (r .at) ⌝ }
 {
-    let next = count_byte(tally, bytes[i]);
+    let next = tally::count_byte(tally, bytes[i]);
     Turn {
         tally: next,
         at: i + 1,
@@ -324,14 +190,13 @@ fn turned(tally: Tally, bytes: &[u8], i: usize) -> Turn
     let hearing = tally.hearing;
     match hearing {
         Hearing::Hunting => hunt_on(tally.counts, bytes, i),
-        Hearing::Head { clock: _ } => single(tally, bytes, i),
-        Hearing::Body(_) => single(tally, bytes, i),
+        _ => single(tally, bytes, i),
     }
 }
 
 // The tally after these bytes.
 pub fn count(tally: Tally, bytes: &[u8]) -> Tally
-    ensures { λ r. ⌜ r ≡ spec.countedFrom tally (now (bytes .entry)) ⌝ }
+    ensures { λ r. ⌜ r ≡ countedFrom tally (now (bytes .entry)) ⌝ }
 {
     let mut t = tally;
     let mut i = 0;
@@ -341,15 +206,4 @@ pub fn count(tally: Tally, bytes: &[u8]) -> Tally
         i = next.at;
     }
     t
-}
-
-// How many bytes of an unfinished frame have come.
-pub fn open_bytes(hearing: Hearing) -> u64
-    ensures { λ r. ⌜ r ≡ spec.openBytes hearing ⌝ }
-{
-    match hearing {
-        Hearing::Hunting => 0,
-        Hearing::Head { clock: _ } => 1,
-        Hearing::Body(p) => (p.at as u64) + 2,
-    }
 }

@@ -8,7 +8,7 @@ use lib.ListN.{length, take, drop, getD}
 use denote.Ref.{now}
 use Rattle.frame.specs.Bytes.{xorAll}
 use Rattle.counting.specs.Ahead.{whole}
-use Rattle.counting.specs.Counting.{added}
+use Rattle.tally.specs.Tally.{added}
 use Rattle.counting.proofs.Ahead.{short-at, whole-at, counts-are}
 use Rattle.counting.proofs.stride.Statement.{statement}
 use Rattle.counting.proofs.stride.Tie as tie

@@ -1,8 +1,8 @@
--- `counting::open_bytes` meets its contract, by where the hearing stands.
+-- `tally::open_bytes` meets its contract, by where the hearing stands.
 -- Assumes nothing.
 use borrow.Author.Needs.{needs}
-use Rattle.counting.proofs.open_bytes.Statement.{statement}
-use Rattle.counting.proofs.open_bytes.Tie as tie
+use Rattle.tally.proofs.open_bytes.Statement.{statement}
+use Rattle.tally.proofs.open_bytes.Tie as tie
 
 enum-told : tie.Need-enum-told
 enum-told c = search needs

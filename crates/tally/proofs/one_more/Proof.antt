@@ -1,9 +1,9 @@
--- `counting::one_more` meets its contract, by its test.
+-- `tally::one_more` meets its contract, by its test.
 -- Assumes nothing.
 use borrow.Author.Tests.{lt-ltb, le-ltb}
 use borrow.Author.Needs.{needs}
-use Rattle.counting.proofs.one_more.Statement.{statement}
-use Rattle.counting.proofs.one_more.Tie as tie
+use Rattle.tally.proofs.one_more.Statement.{statement}
+use Rattle.tally.proofs.one_more.Tie as tie
 
 add-result : tie.Need-add-result
 add-result c = search needs

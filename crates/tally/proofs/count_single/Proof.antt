@@ -1,8 +1,8 @@
--- `counting::count_single` meets its contract, case by case.
+-- `tally::count_single` meets its contract, case by case.
 -- Assumes nothing.
 use borrow.Author.Needs.{needs}
-use Rattle.counting.proofs.count_single.Statement.{statement}
-use Rattle.counting.proofs.count_single.Tie as tie
+use Rattle.tally.proofs.count_single.Statement.{statement}
+use Rattle.tally.proofs.count_single.Tie as tie
 
 enum-told : tie.Need-enum-told
 enum-told c = search needs

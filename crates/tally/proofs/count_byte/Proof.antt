@@ -1,8 +1,8 @@
--- `counting::count_byte` meets its contract: what was heard, counted.
+-- `tally::count_byte` meets its contract: what was heard, counted.
 -- Assumes nothing.
 use borrow.Author.Needs.{needs}
-use Rattle.counting.proofs.count_byte.Statement.{statement}
-use Rattle.counting.proofs.count_byte.Tie as tie
+use Rattle.tally.proofs.count_byte.Statement.{statement}
+use Rattle.tally.proofs.count_byte.Tie as tie
 
 hear-byte-requires : tie.Need-hear-byte-requires
 hear-byte-requires c κs = search needs

@@ -1,0 +1,145 @@
+// The tally of section 9 (document 01): a byte, heard as the link hears it with no ticks, adds 1 to one count or to none.
+use reception::End;
+use reception::Event;
+use reception::Hearing;
+use reception::Single;
+ghost use mathlib.Core.Path.{_≡_};
+ghost use Rattle.tally.specs.Tally as spec;
+
+// How many of each, in the order printed.
+pub struct Counts {
+    pub ack: u64,
+    pub nak: u64,
+    pub can: u64,
+    pub frames: u64,
+    pub badsum: u64,
+    pub badlen: u64,
+    pub reserved: u64,
+    pub skipped: u64,
+}
+
+// Where the hearing stands, and what has been counted.
+pub struct Tally {
+    pub hearing: Hearing,
+    pub counts: Counts,
+}
+
+// Before the first byte.
+pub fn fresh() -> Tally
+    ensures { λ r. ⌜ r ≡ spec.fresh ⌝ }
+{
+    let counts = Counts {
+        ack: 0,
+        nak: 0,
+        can: 0,
+        frames: 0,
+        badsum: 0,
+        badlen: 0,
+        reserved: 0,
+        skipped: 0,
+    };
+    Tally {
+        hearing: Hearing::Hunting,
+        counts: counts,
+    }
+}
+
+// One more. A caller may hand in any counts, so the largest number stays: that way every call is total, and the sum never wraps.
+// A count gets at most 1 for each byte, so none that began at 0 meets this below 2^64 bytes, and section 9 ends at 2^24.
+pub fn one_more(n: u64) -> u64
+    ensures { λ r. ⌜ r ≡ spec.oneMore n ⌝ }
+{
+    if n < 18446744073709551615 {
+        return n + 1;
+    }
+    n
+}
+
+fn count_single(counts: Counts, single: Single) -> Counts
+    ensures { λ r. ⌜ r ≡ spec.added (spec.singleColumn single) counts ⌝ }
+{
+    let mut next = counts;
+    match single {
+        Single::Ack => {
+            next.ack = one_more(counts.ack);
+            next
+        }
+        Single::Nak => {
+            next.nak = one_more(counts.nak);
+            next
+        }
+        Single::Can => {
+            next.can = one_more(counts.can);
+            next
+        }
+    }
+}
+
+fn count_end(counts: Counts, end: End) -> Counts
+    ensures { λ r. ⌜ r ≡ spec.added (spec.endColumn end) counts ⌝ }
+{
+    let mut next = counts;
+    match end {
+        End::Request { size: _ }
+        | End::Response {
+            size: _,
+            command: _,
+        } => {
+            next.frames = one_more(counts.frames);
+            next
+        }
+        End::BadSum => {
+            next.badsum = one_more(counts.badsum);
+            next
+        }
+        End::BadLength => {
+            next.badlen = one_more(counts.badlen);
+            next
+        }
+        End::Reserved => {
+            next.reserved = one_more(counts.reserved);
+            next
+        }
+    }
+}
+
+fn count_event(counts: Counts, event: Event) -> Counts
+    ensures { λ r. ⌜ r ≡ spec.added (spec.column event) counts ⌝ }
+{
+    match event {
+        Event::Alone(single) => count_single(counts, single),
+        Event::Ended(end) => count_end(counts, end),
+        Event::Skipped => {
+            let mut next = counts;
+            next.skipped = one_more(counts.skipped);
+            next
+        }
+        _ => counts,
+    }
+}
+
+// The tally with one byte more.
+pub fn count_byte(tally: Tally, b: u8) -> Tally
+    ensures { λ r. ⌜ r ≡ spec.countedByte b tally ⌝ }
+{
+    let hearing = tally.hearing;
+    let heard = reception::hear_byte(hearing, b);
+    let event = heard.event;
+    let after = heard.hearing;
+    let counts = count_event(tally.counts, event);
+    Tally {
+        hearing: after,
+        counts: counts,
+    }
+}
+
+// How many bytes of an unfinished frame have come.
+pub fn open_bytes(hearing: Hearing) -> u64
+    ensures { λ r. ⌜ r ≡ spec.openBytes hearing ⌝ }
+{
+    match hearing {
+        Hearing::Hunting => 0,
+        Hearing::Head { clock: _ } => 1,
+        Hearing::Body(p) => (p.at as u64) + 2,
+    }
+}
