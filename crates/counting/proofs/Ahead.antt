@@ -249,9 +249,12 @@ module _ {bytes : List ℕ} {t u v : Tally} {i j m : ℕ} where
   pub ahead-onward : Ahead bytes t i u j → Onward bytes u j v m → Onward bytes t i v m
   ahead-onward a b = record { on = omega arith; within = b .within; same = a .same ∙ b .same }
 
--- The counts that a call answered.
+-- The tally, or the counts, that a call answered.
+pub tally-is : {bytes : List ℕ} {t u w : Tally} {i j : ℕ} → w ≡ u → Ahead bytes t i u j → Ahead bytes t i w j
+tally-is {bytes} {t} {u} {w} {i} {j} e a = subst (λ (x : Tally). Ahead bytes t i x j) (sym e) a
+
 pub counts-are : {bytes : List ℕ} {t : Tally} {k l : Counts} {i j : ℕ} → l ≡ k → Ahead bytes t i (hunting k) j → Ahead bytes t i (hunting l) j
-counts-are {bytes} {t} {k} {l} {i} {j} e a = subst (λ (m : Counts). Ahead bytes t i (hunting m) j) (sym e) a
+counts-are e a = tally-is (ap hunting e) a
 
 pub byte-at : (bytes : List ℕ) (t u : Tally) (i : ℕ) → i < length bytes → u ≡ countedByte (getD bytes i 0) t → Onward bytes t i u (i + 1)
 byte-at bytes t u i h e =

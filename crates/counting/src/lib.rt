@@ -22,49 +22,46 @@ struct Turn {
 }
 
 // A byte while hunting that begins no frame.
-fn count_apart(counts: Counts, b: u8) -> Counts
+fn count_apart(mut counts: Counts, b: u8) -> Counts
     ensures { λ r. ⌜ r ≡ added (apart b) counts ⌝ }
 {
-    let mut next = counts;
     if b == 6 {
-        next.ack = tally::one_more(counts.ack);
-        return next;
+        counts.ack = tally::one_more(counts.ack);
+        return counts;
     }
     if b == 21 {
-        next.nak = tally::one_more(counts.nak);
-        return next;
+        counts.nak = tally::one_more(counts.nak);
+        return counts;
     }
     if b == 24 {
-        next.can = tally::one_more(counts.can);
-        return next;
+        counts.can = tally::one_more(counts.can);
+        return counts;
     }
-    next.skipped = tally::one_more(counts.skipped);
-    next
+    counts.skipped = tally::one_more(counts.skipped);
+    counts
 }
 
 // A frame that lies whole in the bytes, by its checksum and its Type.
-fn count_whole(counts: Counts, kind: u8, sum: u8, check: u8) -> Counts
+fn count_whole(mut counts: Counts, kind: u8, sum: u8, check: u8) -> Counts
     ensures { λ r. ⌜ r ≡ added (whole kind sum check) counts ⌝ }
 {
-    let mut next = counts;
     if check == sum {
         if kind < 2 {
-            next.frames = tally::one_more(counts.frames);
-            return next;
+            counts.frames = tally::one_more(counts.frames);
+            return counts;
         }
-        next.reserved = tally::one_more(counts.reserved);
-        return next;
+        counts.reserved = tally::one_more(counts.reserved);
+        return counts;
     }
-    next.badsum = tally::one_more(counts.badsum);
-    next
+    counts.badsum = tally::one_more(counts.badsum);
+    counts
 }
 
-fn count_bad_length(counts: Counts) -> Counts
+fn count_bad_length(mut counts: Counts) -> Counts
     ensures { λ r. ⌜ r ≡ added 5 counts ⌝ }
 {
-    let mut next = counts;
-    next.badlen = tally::one_more(counts.badlen);
-    next
+    counts.badlen = tally::one_more(counts.badlen);
+    counts
 }
 
 // At an 01: the whole frame in one stride, its body in one loop that keeps nothing. A frame that the bytes cut short is left where
@@ -139,18 +136,18 @@ fn hunt(counts: Counts, bytes: &[u8], start: usize) -> Stretch
     requires { ⌜ start ≤ length (now bytes) ⌝ }
     ensures { λ r. ⌜ Ahead (now (bytes .entry)) (hunting counts) start (hunting (r .counts)) (r .at) ⌝ }
 {
-    let mut k = counts;
-    let mut i = start;
-    while i < bytes.len() {
-        let s = step(k, bytes, i);
-        let at = s.at;
-        if at == i {
-            return Stretch { counts: k, at: i };
+    let mut s = Stretch {
+        counts: counts,
+        at: start,
+    };
+    while s.at < bytes.len() {
+        let next = step(s.counts, bytes, s.at);
+        if next.at == s.at {
+            return s;
         }
-        k = s.counts;
-        i = at;
+        s = next;
     }
-    Stretch { counts: k, at: i }
+    s
 }
 
 // One byte, as the link hears it, wherever the hearing stands.
@@ -165,6 +162,16 @@ fn single(tally: Tally, bytes: &[u8], i: usize) -> Turn
     }
 }
 
+// These counts, and the hearing hunts.
+fn at_hunt(counts: Counts) -> Tally
+    ensures { λ r. ⌜ r ≡ hunting counts ⌝ }
+{
+    Tally {
+        hearing: Hearing::Hunting,
+        counts: counts,
+    }
+}
+
 // While hunting: as far as no frame is cut short, and there one byte.
 fn hunt_on(counts: Counts, bytes: &[u8], i: usize) -> Turn
     requires { ⌜ i < length (now bytes) ⌝ }
@@ -172,11 +179,7 @@ fn hunt_on(counts: Counts, bytes: &[u8], i: usize) -> Turn
 {
     let s = hunt(counts, bytes, i);
     let at = s.at;
-    let k = s.counts;
-    let t = Tally {
-        hearing: Hearing::Hunting,
-        counts: k,
-    };
+    let t = at_hunt(s.counts);
     if at < bytes.len() {
         return single(t, bytes, at);
     }
@@ -198,12 +201,12 @@ fn turned(tally: Tally, bytes: &[u8], i: usize) -> Turn
 pub fn count(tally: Tally, bytes: &[u8]) -> Tally
     ensures { λ r. ⌜ r ≡ countedFrom tally (now (bytes .entry)) ⌝ }
 {
-    let mut t = tally;
-    let mut i = 0;
-    while i < bytes.len() {
-        let next = turned(t, bytes, i);
-        t = next.tally;
-        i = next.at;
+    let mut t = Turn {
+        tally: tally,
+        at: 0,
+    };
+    while t.at < bytes.len() {
+        t = turned(t.tally, bytes, t.at);
     }
-    t
+    t.tally
 }

@@ -55,64 +55,42 @@ pub fn one_more(n: u64) -> u64
     n
 }
 
-fn count_single(counts: Counts, single: Single) -> Counts
+fn count_single(mut counts: Counts, single: Single) -> Counts
     ensures { λ r. ⌜ r ≡ spec.added (spec.singleColumn single) counts ⌝ }
 {
-    let mut next = counts;
     match single {
-        Single::Ack => {
-            next.ack = one_more(counts.ack);
-            next
-        }
-        Single::Nak => {
-            next.nak = one_more(counts.nak);
-            next
-        }
-        Single::Can => {
-            next.can = one_more(counts.can);
-            next
-        }
+        Single::Ack => counts.ack = one_more(counts.ack),
+        Single::Nak => counts.nak = one_more(counts.nak),
+        Single::Can => counts.can = one_more(counts.can),
     }
+    counts
 }
 
-fn count_end(counts: Counts, end: End) -> Counts
+fn count_end(mut counts: Counts, end: End) -> Counts
     ensures { λ r. ⌜ r ≡ spec.added (spec.endColumn end) counts ⌝ }
 {
-    let mut next = counts;
     match end {
         End::Request { size: _ }
         | End::Response {
             size: _,
             command: _,
-        } => {
-            next.frames = one_more(counts.frames);
-            next
-        }
-        End::BadSum => {
-            next.badsum = one_more(counts.badsum);
-            next
-        }
-        End::BadLength => {
-            next.badlen = one_more(counts.badlen);
-            next
-        }
-        End::Reserved => {
-            next.reserved = one_more(counts.reserved);
-            next
-        }
+        } => counts.frames = one_more(counts.frames),
+        End::BadSum => counts.badsum = one_more(counts.badsum),
+        End::BadLength => counts.badlen = one_more(counts.badlen),
+        End::Reserved => counts.reserved = one_more(counts.reserved),
     }
+    counts
 }
 
-fn count_event(counts: Counts, event: Event) -> Counts
+fn count_event(mut counts: Counts, event: Event) -> Counts
     ensures { λ r. ⌜ r ≡ spec.added (spec.column event) counts ⌝ }
 {
     match event {
         Event::Alone(single) => count_single(counts, single),
         Event::Ended(end) => count_end(counts, end),
         Event::Skipped => {
-            let mut next = counts;
-            next.skipped = one_more(counts.skipped);
-            next
+            counts.skipped = one_more(counts.skipped);
+            counts
         }
         _ => counts,
     }

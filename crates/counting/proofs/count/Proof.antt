@@ -1,4 +1,4 @@
--- `counting::count` meets its contract. The invariant: `t` at `i` is ahead of the tally at the first byte.
+-- `counting::count` meets its contract. The invariant: the turn is ahead of the tally at the first byte.
 -- Assumes nothing.
 use mathlib.Core.Path.{sym, _∙_}
 use Prim.Native.Nat.{_-_}
@@ -12,29 +12,29 @@ use Rattle.counting.proofs.count.Statement.{statement}
 use Rattle.counting.proofs.count.Tie as tie
 
 abbrev Inv-loop : tie.InvT-loop
-Inv-loop bytes t₀ i₀ t i = Ahead bytes t₀ 0 t i
+Inv-loop bytes t₀ t = Ahead bytes (t₀ .tally) (t₀ .at) (t .tally) (t .at)
 
 abbrev μ-loop : tie.MeasureT-loop
-μ-loop bytes t₀ i₀ t i = length bytes - i
+μ-loop bytes t₀ t = length bytes - t .at
 
 loop-holds : tie.Need-loop-holds Inv-loop μ-loop
 loop-holds c = ahead-none _ _ _ (omega arith)
 
 turned-requires : tie.Need-turned-requires Inv-loop μ-loop
-turned-requires c κs = c .loop-test .taken
+turned-requires c κs = c .if1 .taken
 
 loop-less : tie.Need-loop-less Inv-loop μ-loop
 loop-less c =
-    let o = c .before .turned .ensures in
+    let o = c .turned .ensures in
     omega arith
 
 loop-again : tie.Need-loop-again Inv-loop μ-loop
-loop-again c = ahead-on (c .before .before .before .loop .inv) (c .before .turned .ensures)
+loop-again c = ahead-on (c .before .before .before .loop .inv) (c .turned .ensures)
 
 returns : tie.Need-returns Inv-loop μ-loop
 returns c =
-    let l = c .before .loop in
-    sym (l .inv .same ∙ count-end (l .t) (l .i) (now (c .before .before .before .args .bytes)) (c .loop-test .left))
+    let l = c .before .before .before .loop in
+    sym (l .inv .same ∙ count-end (l .t .tally) (l .t .at) (now (c .before .before .before .before .before .args .bytes)) (c .before .if1 .left))
 
 pub count-spec : {M : Type 1} → statement M
 count-spec =

@@ -1,4 +1,4 @@
--- `counting::hunt` meets its contract. The invariant: `k` at `i` is ahead of the counts at the start.
+-- `counting::hunt` meets its contract. The invariant: the stretch is ahead of the counts at the start.
 -- Assumes nothing.
 use Prim.Native.Nat.{_-_}
 use native.Mathlib.Omega.{arith}
@@ -9,30 +9,30 @@ use Rattle.counting.proofs.hunt.Statement.{statement}
 use Rattle.counting.proofs.hunt.Tie as tie
 
 abbrev Inv-loop : tie.InvT-loop
-Inv-loop bytes start k₀ i₀ k i = Ahead bytes (hunting k₀) i₀ (hunting k) i
+Inv-loop bytes start s₀ s = Ahead bytes (hunting (s₀ .counts)) (s₀ .at) (hunting (s .counts)) (s .at)
 
 abbrev μ-loop : tie.MeasureT-loop
-μ-loop bytes start k₀ i₀ k i = length bytes - i
+μ-loop bytes start s₀ s = length bytes - s .at
 
 loop-holds : tie.Need-loop-holds Inv-loop μ-loop
 loop-holds c = ahead-none _ _ _ (c .before .pre)
 
 step-requires : tie.Need-step-requires Inv-loop μ-loop
-step-requires c κs = c .loop-test .taken
+step-requires c κs = c .if1 .taken
 
 returns : tie.Need-returns Inv-loop μ-loop
-returns c = c .before .before .before .loop .inv
+returns c = c .before .before .before .before .before .before .loop .inv
 
 loop-less : tie.Need-loop-less Inv-loop μ-loop
 loop-less c =
-    let s = c .before .before .step .ensures in
+    let s = c .before .before .before .step .ensures in
     omega arith
 
 loop-again : tie.Need-loop-again Inv-loop μ-loop
-loop-again c = ahead-ahead (c .before .before .before .before .loop .inv) (c .before .before .step .ensures)
+loop-again c = ahead-ahead (c .before .before .before .before .before .before .loop .inv) (c .before .before .before .step .ensures)
 
 returns-2 : tie.Need-returns-2 Inv-loop μ-loop
-returns-2 c = c .before .loop .inv
+returns-2 c = c .before .before .loop .inv
 
 pub hunt-spec : {M : Type 1} → statement M
 hunt-spec =
