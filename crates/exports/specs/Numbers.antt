@@ -26,8 +26,8 @@ use Rattle.link.specs.declared.calls.Answer.{Answer}
 use Rattle.link.specs.declared.calls.Answer.the-variants as answer
 use Rattle.link.specs.declared.calls.RunAnswer.{RunAnswer}
 use Rattle.link.specs.declared.calls.RunAnswer.the-variants as run
-use Rattle.counting.specs.Counting.{openBytes}
-use Rattle.counting.specs.declared.Tally.{Tally}
+use Rattle.tally.specs.Tally.{openBytes}
+use Rattle.tally.specs.declared.Tally.{Tally}
 
 -- One number more: three times the sum and the number, modulo 2 ^ 64.
 abbrev pub mixed : ℕ → ℕ → ℕ

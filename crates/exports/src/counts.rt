@@ -1,6 +1,7 @@
 // Counting an input.
 ghost use mathlib.Core.Path.{_≡_};
-ghost use Rattle.counting.specs.Counting.{fresh, countedFrom};
+ghost use Rattle.tally.specs.Tally.{fresh};
+ghost use Rattle.counting.specs.Counting.{countedFrom};
 ghost use Rattle.exports.specs.Numbers.{countsOf};
 
 // The counts of the input, in the order printed, and the bytes of an unfinished frame behind them.
@@ -8,11 +9,11 @@ ghost use Rattle.exports.specs.Numbers.{countsOf};
 pub extern "C" fn sarnaqel_count(input: &[u8], counts: &mut [u64; 9])
     ensures { λ _. ⌜ now (counts .exit) ≡ countsOf (countedFrom fresh (now (input .entry))) ⌝ }
 {
-    let fresh = counting::fresh();
+    let fresh = tally::fresh();
     let tally = counting::count(fresh, input);
     let k = tally.counts;
     let hearing = tally.hearing;
-    let open = counting::open_bytes(hearing);
+    let open = tally::open_bytes(hearing);
     *counts = [
         k.ack,
         k.nak,

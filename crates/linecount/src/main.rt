@@ -1,9 +1,9 @@
 // linecount (document 01, section 9): counts what stands in the raw bytes of standard input.
-use counting::Counts;
-use counting::Tally;
 use libc::STDERR_FILENO;
 use libc::STDIN_FILENO;
 use libc::STDOUT_FILENO;
+use tally::Counts;
+use tally::Tally;
 ghost use Rattle.linecount.specs.Reads.{Within};
 ghost use Prim.Native.Nat.{_≤_};
 ghost use lib.ListN.{length};
@@ -54,7 +54,7 @@ fn read_some(buf: &mut [u8], most: usize) -> Got
 
 // Every turn counts at least one byte, so the loop ends.
 fn count_input(buf: &mut [u8]) -> Seen {
-    let mut tally = counting::fresh();
+    let mut tally = tally::fresh();
     let mut left = MOST;
     while left > 0 {
         let got = read_some(buf, left);
@@ -91,7 +91,7 @@ fn print(tally: Tally, cut: u64) {
     print_line(b"reserved=", counts.reserved);
     print_line(b"skipped=", counts.skipped);
     let hearing = tally.hearing;
-    print_line(b"open=", counting::open_bytes(hearing));
+    print_line(b"open=", tally::open_bytes(hearing));
     print_line(b"cut=", cut);
 }
 
