@@ -10,7 +10,6 @@ pub use checks::session_checks;
 pub use state::Core;
 pub use step::Outcome;
 pub use step::decide;
-pub use step::decide_on;
 pub use step::decide_tick;
 pub use step::opening;
 pub use step::restarting;

@@ -70,7 +70,7 @@ fn decided(said: Said, sums: Sums, act: Act) -> Outcome
 }
 
 // A byte: reception first, then the sender and the session.
-pub fn decide_on(job: Job, bad: u8, size: u16, event: Event) -> Outcome
+fn decide_on(job: Job, bad: u8, size: u16, event: Event) -> Outcome
     ensures { λ r. ⌜ r ≡ spec.outcomeOn base size event job bad ⌝ }
 {
     let said = said_on(event, job);
