@@ -1,7 +1,8 @@
 -- Demand 3 over all histories, for any rules that fit, and for document 01's.
 -- Assumes nothing.
 use Prim.Native.Nat.{ℕ, _+_, _≤_}
-use mathlib.Core.Path.{refl, subst}
+use mathlib.Core.Path.{_≡_, refl, subst}
+use mathlib.Core.Bool.{Bool, true, false}
 use mathlib.Core.List.{List, [], _∷_, _++_}
 use native.Mathlib.Omega.{arith}
 use lib.ListN.{length, length-append}
@@ -24,19 +25,16 @@ use Rattle.job.specs.declared.report.Reset.the-variants as reset
 use Rattle.link.specs.declared.state.Link.{Link}
 use Rattle.history.specs.Calls.{send, session, Call, checksOf}
 use Rattle.history.specs.History.{after}
-use Rattle.history.specs.Watch.{verdictOf, watch, watched}
+use Rattle.history.specs.Watch.{abandonsIn, verdictOf, watch, watched}
+use Rattle.history.specs.Bound.{Fits, bound}
 use Rattle.history.specs.Demand3.{Kept, Demand3, EverySend, EverySession, sendBound, sessionBound}
-use Rattle.history.proofs.Mix.{IsFrame}
+use Rattle.history.proofs.Mix.{IsFrame, mix-answers}
 use Rattle.history.proofs.Reception.{room, InTime}
-use Rattle.history.proofs.Job.{Fits, tail, extra, start-ok}
+use Rattle.history.proofs.Job.{start-ok}
 use Rattle.history.proofs.Links.{Outcome, lifted}
 use Rattle.history.proofs.Histories.{accepted-is, in-time}
-use Rattle.history.proofs.Watching.{onward-ok, watch-ok, kept, watched-over, watched-there}
-use Rattle.history.proofs.Once.{once-from}
-
--- the bound, of the rules: a frame's time, a wait, and what comes after copy 1 is lost
-abbrev pub bound : Rules → (ℕ → ℕ) → Asking → ℕ → ℕ
-bound R g a size = 1501 + (R .wait size + tail (R .wait size) g 1 + extra a)
+use Rattle.history.proofs.Watching.{onward-ok, watch-ok, copies-are, copies-number, kept, watched-over, watched-there}
+use Rattle.history.proofs.Once.{NotAbandoned, sofar-from, one-at-most, spent-is}
 
 pub frame-is : (kind command : ℕ) (ps : List ℕ) → IsFrame (frameOf kind command ps)
 unfolding frameOf
@@ -60,17 +58,32 @@ module _ (R : Rules) (g : ℕ → ℕ) (fit : Fits R g) where
       (start (isHunting h) a 0) (bound R g a (length f)) 0 0 i (take-append-seam f _)
       (start-ok R g fit (length f) (isHunting h) h (bound R g a (length f)) 0 0 a i (omega arith) (omega (arith, room-most h)))
 
+  open-unsaid : (l : Link) (a : Asking) (f : List ℕ) → NotAbandoned (openOut l a f)
+  unfolding openOut
+  open-unsaid l a f = by (isHunting (l .core .hearing))
+    where
+      by : (hunting : Bool) → abandonsIn ((start hunting a 0) .sending) ((start hunting a 0) .session) ≡ 0
+      by true = refl
+      by false = refl
+
   opened : (l : Link) (a : Asking) (f : List ℕ) → InTime (l .core .hearing) → IsFrame f → (k : List Call)
       → Demand3 R a f (bound R g a (length f)) (openOut l a f) k
   opened l a f i w k =
       let o = openOut l a f in
       let c = open-gave l a f i in
-      let q : Kept f (bound R g a (length f)) (watched R a o k) =
-      kept f (bound R g a (length f)) (watched R a o k) w
+      let q : Kept a f (bound R g a (length f)) (watched R a o k) =
+      kept f a (bound R g a (length f)) (watched R a o k) w
       (onward-ok R g fit f a (verdictOf a o) (bound R g a (length f)) 0 0 o (watch R a (o .link) k) c (watch-ok R g fit f a k (o .link))) in
+      let s = sofar-from R g fit f a k (bound R g a (length f)) 0 0 o (open-unsaid l a f) c in
       record {
-        once = once-from R g fit f a k (bound R g a (length f)) 0 0 o c;
+        once = omega (arith, s .said, one-at-most (watched R a o k));
+        said = s .said;
+        abandoned = s .abandoned;
         kept = q;
+        few = omega (arith, s .few, copies-number w (s .mix));
+        equal = copies-are w (s .mix);
+        spent = spent-is w (s .mix) (watched R a o k) (s .spent);
+        answers = mix-answers w (s .mix);
         comes = watched-over R a f (bound R g a (length f)) o k q;
         restarted = watched-there R a o k;
       }

@@ -1,7 +1,7 @@
 -- The job by itself: the ticks left before the verdict, at most, and the copies, on every event.
 -- Assumes nothing.
 use Prim.Native.Nat.{ℕ, zero, suc, _+_, _-_, _≤_, _<_}
-use mathlib.Core.Path.{_≡_, refl, ap, sym, _∙_, subst}
+use mathlib.Core.Path.{_≡_, refl, ap, ap₂, sym, _∙_, subst}
 use mathlib.Core.Bool.{Bool, true, false, false≢true}
 use native.Mathlib.Omega.{arith}
 use native.Mathlib.Nat.{not-suc-le-zero}
@@ -29,22 +29,10 @@ use Rattle.job.specs.declared.report.Reset.the-variants as reset
 use Rattle.job.specs.declared.report.Sending.{Sending}
 use Rattle.job.specs.declared.report.Sending.the-variants as sending
 use Rattle.job.specs.declared.report.Session.the-variants as session
-use Rattle.history.specs.Watch.{Verdict, copiesIn, isFailure, Says, none, says, sendVerdict, sessionVerdict, verdictIn}
+use Rattle.job.specs.declared.report.Session.{Session}
+use Rattle.history.specs.Watch.{Verdict, copiesIn, isFailure, isOwn, Says, none, says, orElse, unlessWaiting, sendVerdict, sessionVerdict, verdictIn}
+use Rattle.history.specs.Bound.{Fits, tail, extra}
 use Rattle.history.proofs.Reception.{pick-by, room, Within, WithinIf, Stays, Passes, Aborts, Alones, Tells, ticksAt}
-
--- What the bound needs of the rules: g n bounds the back-off after copy n is lost; a told back-off may be one longer, since 15 or 18 comes a tick before the loss at the latest.
-pub record Fits (R : Rules) (g : ℕ → ℕ) : Type 0 where
-  pub wait : (size : ℕ) → 0 < R .wait size
-  pub late : (n : ℕ) → R .back time n ≤ g n
-  pub early : (n : ℕ) → R .back told n ≤ g n + 1
-
--- ticks after copy n is lost, at most, until the verdict; W is the wait
-abbrev pub tail : ℕ → (ℕ → ℕ) → ℕ → ℕ
-tail W g zero = 0
-tail W g (suc zero) = g 1 + 1500 + W + (g 2 + 1500 + W + (g 3 + 1500 + W))
-tail W g (suc (suc zero)) = g 2 + 1500 + W + (g 3 + 1500 + W)
-tail W g (suc (suc (suc zero))) = g 3 + 1500 + W
-tail W g (suc (suc (suc (suc n)))) = 0
 
 tail-law : (W : ℕ) (g : ℕ → ℕ) (n : ℕ) → 0 < n → n < 4 → tail W g n ≡ g n + 1500 + W + tail W g (suc n)
 tail-law W g zero a b = absurd (not-suc-le-zero a)
@@ -53,10 +41,18 @@ tail-law W g (suc (suc zero)) a b = refl
 tail-law W g (suc (suc (suc zero))) a b = omega arith
 tail-law W g (suc (suc (suc (suc n)))) a b = absurd (omega arith)
 
--- a session's ACK comes a tick before the loss at the latest
-abbrev pub extra : Asking → ℕ
-extra Plain = 0
-extra (Asks c) = 4999
+-- neither part says a verdict
+beside-none : (e : Session) → unlessWaiting e none ≡ none
+beside-none session.Nothing = refl
+beside-none session.Waiting = refl
+beside-none (session.Response n) = refl
+beside-none (session.NoResponse n) = refl
+beside-none (session.NotSent n) = refl
+beside-none session.Abandoned = refl
+
+pub no-verdict : (a : Asking) (s : Sending) (e : Session) → sendVerdict s ≡ none → sessionVerdict e ≡ none → verdictIn a s e ≡ none
+no-verdict Plain s e p q = ap₂ orElse p q
+no-verdict (Asks c) s e p q = ap₂ (λ (x y : Says). orElse x (unlessWaiting e y)) q p ∙ beside-none e
 
 -- an open send or session, with a held frame of so many bytes
 pub data Good (R : Rules) (size : ℕ) (h : Hearing) : Asking → Job → Type 0 where
@@ -87,8 +83,9 @@ pub record Going (R : Rules) (g : ℕ → ℕ) (size : ℕ) (h : Hearing) (L n t
   pub count : copiesOf job ≡ n + ones copy
 
 -- an act with a verdict
-pub record Over (L n t : ℕ) (v : Verdict) (job : Job) (copy : Bool) : Type 0 where
+pub record Over (L n t : ℕ) (v : Verdict) (a : Asking) (job : Job) (copy : Bool) : Type 0 where
   pub soon : t ≤ L
+  pub own : isOwn a v ≡ true
   pub count : copiesIn v ≡ n + ones copy
   pub few : copiesIn v ≤ 4
   pub four : isFailure v ≡ true → copiesIn v ≡ 4
@@ -96,7 +93,7 @@ pub record Over (L n t : ℕ) (v : Verdict) (job : Job) (copy : Bool) : Type 0 w
 
 abbrev pub Claim : Rules → (ℕ → ℕ) → ℕ → Hearing → ℕ → ℕ → ℕ → Says → Asking → Job → Bool → Type 0
 Claim R g size h L n t none a job copy = Going R g size h L n t a job copy
-Claim R g size h L n t (says v) a job copy = Over L n t v job copy
+Claim R g size h L n t (says v) a job copy = Over L n t v a job copy
 
 pub good-few : {R : Rules} {size : ℕ} {h : Hearing} {a : Asking} {job : Job} → Good R size h a job → copiesOf job ≤ 4
 good-few (due n w) = omega arith
@@ -108,11 +105,9 @@ module _ (R : Rules) (g : ℕ → ℕ) (fit : Fits R g) (size : ℕ) where
   abbrev pub C : Hearing → ℕ → ℕ → ℕ → Asking → Act → Type 0
   C h L n t a x = Claim R g size h L n t (verdictIn a (x .sending) (x .session)) a (x .job) (x .copy)
 
-  -- neither part says a verdict
   goes : (h : Hearing) (L n t : ℕ) (a : Asking) (x : Act) → sendVerdict (x .sending) ≡ none → sessionVerdict (x .session) ≡ none
       → Going R g size h L n t a (x .job) (x .copy) → C h L n t a x
-  goes h L n t Plain x p q k = subst (λ (s : Says). Claim R g size h L n t s Plain (x .job) (x .copy)) (sym p) k
-  goes h L n t (Asks c) x p q k = subst (λ (s : Says). Claim R g size h L n t s (Asks c) (x .job) (x .copy)) (sym q) k
+  goes h L n t a x p q k = subst (λ (s : Says). Claim R g size h L n t s a (x .job) (x .copy)) (sym (no-verdict a (x .sending) (x .session) p q)) k
 
   -- the job goes on, and no copy goes out
   holds : (h : Hearing) (L n t : ℕ) (a : Asking) (job : Job) (s : Sending) → sendVerdict s ≡ none → Good R size h a job → left R g size h job + t ≤ L → copiesOf job ≡ n
@@ -136,8 +131,8 @@ module _ (R : Rules) (g : ℕ → ℕ) (fit : Fits R g) (size : ℕ) where
   start-ok false h L n t a i k b = holds h L n t a (Due a n) sending.Due refl (due k i) b refl
 
   fail-ok : (h : Hearing) (L n t : ℕ) (a : Asking) → 4 ≤ n → n ≤ 4 → t ≤ L → C h L n t a (fail a n)
-  fail-ok h L n t Plain k m b = record { soon = b; count = omega arith; few = m; four = λ _. omega arith; idle = refl }
-  fail-ok h L n t (Asks c) k m b = record { soon = b; count = omega arith; few = m; four = λ _. omega arith; idle = refl }
+  fail-ok h L n t Plain k m b = record { soon = b; count = omega arith; few = m; four = λ _. omega arith; own = refl; idle = refl }
+  fail-ok h L n t (Asks c) k m b = record { soon = b; count = omega arith; few = m; four = λ _. omega arith; own = refl; idle = refl }
 
   off-ok : (b : ℕ) (hunting : Bool) (h : Hearing) (L n t : ℕ) (a : Asking) → WithinIf hunting h → room h ≤ 1500 → 0 < n → n < 4
       → b + 1500 + ahead (R .wait size) g a n + t ≤ L → C h L n t a (backOff b hunting a n)
@@ -157,7 +152,7 @@ module _ (R : Rules) (g : ℕ → ℕ) (fit : Fits R g) (size : ℕ) where
       (λ e. fail-ok h L n t a (ltb-false n 4 e) q (omega arith))
 
   ack-ok : (h : Hearing) (L n : ℕ) (a : Asking) → 0 < n → n ≤ 4 → suc (extra a) ≤ L → C h L n 0 a (acknowledge a n)
-  ack-ok h L n Plain p q s = record { soon = omega arith; count = omega arith; few = q; four = λ e. absurd (false≢true e); idle = refl }
+  ack-ok h L n Plain p q s = record { soon = omega arith; count = omega arith; few = q; four = λ e. absurd (false≢true e); own = refl; idle = refl }
   ack-ok h L n (Asks c) p q s = record { good = awaiting {e = 0} p q (omega arith); less = omega arith; count = omega arith }
 
   -- 06, 15 or 18 comes while hunting, so no copy is due
@@ -202,7 +197,7 @@ module _ (R : Rules) (g : ℕ → ℕ) (fit : Fits R g) (size : ℕ) where
       (λ x.
       let v : e + 1 < 5000 = ltb-true _ _ x in
       holds h′ _ n 1 (Asks c) (Awaiting c n (e + 1)) sending.Nothing refl (awaiting p k v) (omega arith) refl)
-      (λ x. record { soon = omega arith; count = omega arith; few = k; four = λ y. absurd (false≢true y); idle = refl })
+      (λ x. record { soon = omega arith; count = omega arith; few = k; four = λ y. absurd (false≢true y); own = refl; idle = refl })
 
   tick-ok : (hunting : Bool) (h h′ : Hearing) {a : Asking} {job : Job} → Passes hunting h h′ → Good R size h a job
       → C h′ (left R g size h job) (copiesOf job) 1 a (onTick R size hunting job)
@@ -232,7 +227,7 @@ module _ (R : Rules) (g : ℕ → ℕ) (fit : Fits R g) (size : ℕ) where
   response-ok command h h′ (backs {a} p k w) = release-ok h h′ {a = a} (backs p k w)
   response-ok command h h′ (awaiting {c} {n} {e} p k w) =
       pick-by (C h′ (5000 - e) n 0 (Asks c)) (eqb command c) _ _
-      (λ _. record { soon = omega arith; count = omega arith; few = k; four = λ y. absurd (false≢true y); idle = refl })
+      (λ _. record { soon = omega arith; count = omega arith; few = k; four = λ y. absurd (false≢true y); own = refl; idle = refl })
       (λ _. release-ok h h′ (awaiting p k w))
 
   end-ok : (e : End) (h h′ : Hearing) {a : Asking} {job : Job} → Good R size h a job → C h′ (left R g size h job) (copiesOf job) 0 a (onEnd e job)

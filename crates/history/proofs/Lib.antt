@@ -6,6 +6,7 @@ pub mod Histories
 pub mod Watching
 pub mod Once
 pub mod Demand3
+pub mod Verdicts
 pub mod Ranges
 pub mod Section11
 pub mod Bodies

@@ -28,6 +28,8 @@ use Rattle.job.specs.declared.job.Asking.{Asking}
 use Rattle.job.specs.declared.job.Asking.the-variants.{Plain, Asks}
 use Rattle.job.specs.declared.job.Job.{Job}
 use Rattle.job.specs.declared.job.Job.the-variants.{Idle, Due, Waiting, BackingOff, Awaiting}
+use Rattle.job.specs.declared.report.Sending.the-variants as sending
+use Rattle.job.specs.declared.report.Session.the-variants as session
 use Rattle.report.specs.declared.report.Reception.{Reception}
 use Rattle.report.specs.declared.report.Reception.the-variants as reception
 use Rattle.report.specs.declared.report.Reply.{Reply}
@@ -35,10 +37,12 @@ use Rattle.report.specs.declared.report.Reply.the-variants as reply
 use Rattle.report.specs.declared.report.Said.{Said}
 use Rattle.report.specs.declared.report.Sums.{Sums}
 use Rattle.link.specs.declared.state.Link.{Link}
-use Rattle.history.specs.Watch.{Verdict, copiesIn, isFailure, Says, none, says, verdictIn, verdictOf}
+use Rattle.history.specs.Cut.{ack, nak}
+use Rattle.history.specs.Watch.{Verdict, copiesIn, isFailure, isOwn, Says, none, says, verdictIn, verdictOf}
+use Rattle.history.specs.Bound.{Fits}
 use Rattle.history.proofs.Mix.{Mix, end as finish, one, copy, mix-append}
 use Rattle.history.proofs.Reception.{pick-by, pick-ok, InTime, Steps, ticksAt, byte-steps, tick-steps}
-use Rattle.history.proofs.Job.{Fits, Good, left, ones, Claim, act-ok}
+use Rattle.history.proofs.Job.{Good, left, ones, Claim, no-verdict, act-ok}
 
 -- ---- a byte whose report is no more than "nothing" or "skipped" changes the job in nothing and puts nothing out
 single-news : (R : Rules) (s : Single) (j : Job) → newsSending ((onSingle R s j) .sending) ≡ true
@@ -101,8 +105,9 @@ pub record Goes (R : Rules) (g : ℕ → ℕ) (f : List ℕ) (a : Asking) (L n t
   pub count : copiesOf (o .link .core .job) ≡ n + more
 
 -- and with a verdict
-pub record Ends (f : List ℕ) (L n t : ℕ) (v : Verdict) (line : List ℕ) : Type 0 where
+pub record Ends (f : List ℕ) (a : Asking) (L n t : ℕ) (v : Verdict) (line : List ℕ) : Type 0 where
   pub soon : t ≤ L
+  pub own : isOwn a v ≡ true
   pub more : ℕ
   pub mix : Mix f more line
   pub count : copiesIn v ≡ n + more
@@ -111,12 +116,12 @@ pub record Ends (f : List ℕ) (L n t : ℕ) (v : Verdict) (line : List ℕ) : T
 
 abbrev pub Outcome : Rules → (ℕ → ℕ) → List ℕ → Asking → ℕ → ℕ → ℕ → Says → Out → Type 0
 Outcome R g f a L n t none o = Goes R g f a L n t o
-Outcome R g f a L n t (says v) o = Ends f L n t v (o .line) × (o .link .core .job ≡ Idle)
+Outcome R g f a L n t (says v) o = Ends f a L n t v (o .line) × (o .link .core .job ≡ Idle)
 
-reply-mix : (f : List ℕ) (r : Reply) → Mix f 0 (replyBytes r)
+pub reply-mix : (f : List ℕ) (r : Reply) → Mix f 0 (replyBytes r)
 reply-mix f reply.Silent = finish
-reply-mix f reply.Ack = one 6 refl finish
-reply-mix f reply.Nak = one 21 refl finish
+reply-mix f reply.Ack = one 6 ack finish
+reply-mix f reply.Nak = one 21 nak finish
 
 copy-mix : (f l : List ℕ) → l ≡ f → (c : Bool) → Mix f (ones c) (pick c l [])
 copy-mix f l e true = subst (λ (z : List ℕ). Mix f 1 z) (append-nil f ∙ sym e) (copy finish)
@@ -137,6 +142,7 @@ module _ (R : Rules) (g : ℕ → ℕ) (fit : Fits R g) (f : List ℕ) (a : Aski
   lift (says v) body frame h size q z x L n t i e c = (
     record {
       soon = c .soon;
+      own = c .own;
       more = 0 + ones (x .copy);
       mix = mix-append (reply-mix f (q .reply)) (copy-mix f (take size frame) e (x .copy));
       count = omega (arith, c .count);
@@ -188,14 +194,10 @@ module _ (R : Rules) (g : ℕ → ℕ) (fit : Fits R g) (f : List ℕ) (a : Aski
   weaker : (s : Says) (L L′ n n′ : ℕ) (o : Out) → L ≤ L′ → n ≡ n′ → Outcome R g f a L n 0 s o → Outcome R g f a L′ n′ 0 s o
   weaker none L L′ n n′ o h e c = record { sends = c .sends; less = omega (arith, c .less); more = c .more; mix = c .mix; count = omega (arith, c .count) }
   weaker (says v) L L′ n n′ o h e c =
-      (record { soon = omega (arith, c .0 .soon); more = c .0 .more; mix = c .0 .mix; count = omega (arith, c .0 .count); few = c .0 .few; four = c .0 .four }, c .1)
+      (record { soon = omega (arith, c .0 .soon); own = c .0 .own; more = c .0 .more; mix = c .0 .mix; count = omega (arith, c .0 .count); few = c .0 .few; four = c .0 .four }, c .1)
 
   still-none : (j : Job) → verdictIn a ((still j) .sending) ((still j) .session) ≡ none
-  still-none j = by a
-    where
-      by : (b : Asking) → verdictIn b ((still j) .sending) ((still j) .session) ≡ none
-      by Plain = refl
-      by (Asks c) = refl
+  still-none j = no-verdict a sending.Nothing session.Nothing refl refl
 
   quiet-byte : (L n : ℕ) (l : Link) (b : ℕ) → Sends R f a l → leftOn R g l ≤ L → copiesOf (l .core .job) ≡ n → news (byteOut R l b) ≡ false → Quiet L n (byteOut R l b)
   unfolding byteOut

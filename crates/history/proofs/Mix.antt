@@ -10,13 +10,14 @@ use lib.Dec.{eqb}
 use lib.ListN.{length, take, drop, getD, replicate, length-append, take-append-drop, length-drop}
 use lib.Seq.{take-at, drop-at}
 use Rattle.frame.specs.Pick.{pick}
-use Rattle.history.specs.Cut.{Piece, single, whole, cutInto, cut, framesOf, joined}
+use Rattle.history.specs.Cut.{Piece, single, whole, cutInto, cut, framesOf, frames, singlesOf, singles, IsAnswer, ack, nak, joined}
+use Rattle.history.specs.Ranges.{All}
 use Rattle.history.proofs.Reception.{pick-by}
 
--- n copies of f among single bytes that are not 01
+-- n copies of f among single bytes that are answers
 pub data Mix (f : List ℕ) : ℕ → List ℕ → Type 0 where
   end : Mix f 0 []
-  one : {n : ℕ} {l : List ℕ} (b : ℕ) → eqb b 1 ≡ false → Mix f n l → Mix f n (b ∷ l)
+  one : {n : ℕ} {l : List ℕ} (b : ℕ) → IsAnswer b → Mix f n l → Mix f n (b ∷ l)
   copy : {n : ℕ} {l : List ℕ} → Mix f n l → Mix f (suc n) (f ++ l)
 
 pub mix-append : {f : List ℕ} {m n : ℕ} {a b : List ℕ} → Mix f m a → Mix f n b → Mix f (m + n) (a ++ b)
@@ -33,36 +34,67 @@ pub record IsFrame (f : List ℕ) : Type 0 where
   pub is : f ≡ 1 ∷ len ∷ rest
   pub fits : length rest ≡ len
 
-nothing-left : (m : ℕ) → framesOf (cutInto m []) ≡ []
+-- the pieces that it is made of
+abbrev pieces : {f : List ℕ} {n : ℕ} {l : List ℕ} → Mix f n l → List Piece
+pieces end = []
+pieces (one b e x) = single b ∷ pieces x
+pieces {f} (copy x) = whole f ∷ pieces x
+
+nothing-left : (m : ℕ) → cutInto m [] ≡ []
 nothing-left zero = refl
 nothing-left (suc m) = refl
 
-skip : (b : ℕ) (l : List ℕ) (m : ℕ) → eqb b 1 ≡ false → framesOf (cutInto (suc m) (b ∷ l)) ≡ framesOf (cutInto m l)
+not-01 : {b : ℕ} → IsAnswer b → eqb b 1 ≡ false
+not-01 ack = refl
+not-01 nak = refl
+
+skip : (b : ℕ) (l : List ℕ) (m : ℕ) → IsAnswer b → cutInto (suc m) (b ∷ l) ≡ single b ∷ cutInto m l
 skip b l m e =
     ap
-    (λ (x : Bool). framesOf (pick x (whole (take (getD l 0 0 + 2) (b ∷ l)) ∷ cutInto m (drop (getD l 0 0 + 2) (b ∷ l))) (single b ∷ cutInto m l)))
-    e
+    (λ (x : Bool). pick x (whole (take (getD l 0 0 + 2) (b ∷ l)) ∷ cutInto m (drop (getD l 0 0 + 2) (b ∷ l))) (single b ∷ cutInto m l))
+    (not-01 e)
 
-found′ : (k : ℕ) (r l : List ℕ) (m : ℕ) → length r ≡ k → framesOf (cutInto (suc m) ((1 ∷ k ∷ r) ++ l)) ≡ (1 ∷ k ∷ r) ∷ framesOf (cutInto m l)
+found′ : (k : ℕ) (r l : List ℕ) (m : ℕ) → length r ≡ k → cutInto (suc m) ((1 ∷ k ∷ r) ++ l) ≡ whole (1 ∷ k ∷ r) ∷ cutInto m l
 found′ k r l m h =
     let e : suc (suc (length r)) ≡ k + 2 = omega arith in
-    ap₂ (λ (x : List ℕ) (y : List ℕ). x ∷ framesOf (cutInto m y)) (take-at (1 ∷ k ∷ r) l (k + 2) e) (drop-at (1 ∷ k ∷ r) l (k + 2) e)
+    ap₂ (λ (x : List ℕ) (y : List ℕ). whole x ∷ cutInto m y) (take-at (1 ∷ k ∷ r) l (k + 2) e) (drop-at (1 ∷ k ∷ r) l (k + 2) e)
 
-found : (f l : List ℕ) (m : ℕ) → IsFrame f → framesOf (cutInto (suc m) (f ++ l)) ≡ f ∷ framesOf (cutInto m l)
+found : (f l : List ℕ) (m : ℕ) → IsFrame f → cutInto (suc m) (f ++ l) ≡ whole f ∷ cutInto m l
 found f l m w =
-    subst (λ (z : List ℕ). framesOf (cutInto (suc m) (z ++ l)) ≡ z ∷ framesOf (cutInto m l)) (sym (w .is)) (found′ (w .len) (w .rest) l m (w .fits))
+    subst (λ (z : List ℕ). cutInto (suc m) (z ++ l) ≡ whole z ∷ cutInto m l) (sym (w .is)) (found′ (w .len) (w .rest) l m (w .fits))
 
 long : (f : List ℕ) → IsFrame f → 1 < length f
 long f w = rw (w .is) (omega arith)
 
+-- the cutting finds just these
+cut-by : {f : List ℕ} {n : ℕ} {l : List ℕ} → IsFrame f → (x : Mix f n l) → (m : ℕ) → length l ≤ m → cutInto m l ≡ pieces x
+cut-by w end m h = nothing-left m
+cut-by w (one b e x) zero h = absurd (not-suc-le-zero h)
+cut-by w (one {l = l} b e x) (suc m) h = skip b l m e ∙ ap (λ (z : List Piece). single b ∷ z) (cut-by w x m (omega arith))
+cut-by {f} w (copy {l = l} x) zero h = absurd (omega (arith, long f w, length-append f l))
+cut-by {f} w (copy {l = l} x) (suc m) h =
+    found f l m w ∙ ap (λ (z : List Piece). whole f ∷ z) (cut-by w x m (omega (arith, long f w, length-append f l)))
+
+cut-is : {f : List ℕ} {n : ℕ} {l : List ℕ} → IsFrame f → (x : Mix f n l) → cut l ≡ pieces x
+cut-is {l = l} w x = cut-by w x (length l) (omega arith)
+
+frames-are : {f : List ℕ} {n : ℕ} {l : List ℕ} (x : Mix f n l) → framesOf (pieces x) ≡ replicate n f
+frames-are end = refl
+frames-are (one b e x) = frames-are x
+frames-are {f} (copy x) = ap (λ (z : List (List ℕ)). f ∷ z) (frames-are x)
+
+answers-are : {f : List ℕ} {n : ℕ} {l : List ℕ} (x : Mix f n l) → All IsAnswer (singlesOf (pieces x))
+answers-are end = tt
+answers-are (one b e x) = (e, answers-are x)
+answers-are (copy x) = answers-are x
+
 -- the frames found are the copies
-pub mix-frames : {f : List ℕ} {n : ℕ} {l : List ℕ} → IsFrame f → Mix f n l → (m : ℕ) → length l ≤ m → framesOf (cutInto m l) ≡ replicate n f
-mix-frames w end m h = nothing-left m
-mix-frames w (one b e x) zero h = absurd (not-suc-le-zero h)
-mix-frames w (one {l = l} b e x) (suc m) h = skip b l m e ∙ mix-frames w x m (omega arith)
-mix-frames {f} w (copy {l = l} x) zero h = absurd (omega (arith, long f w, length-append f l))
-mix-frames {f} w (copy {l = l} x) (suc m) h =
-    found f l m w ∙ ap (λ (z : List (List ℕ)). f ∷ z) (mix-frames w x m (omega (arith, long f w, length-append f l)))
+pub mix-frames : {f : List ℕ} {n : ℕ} {l : List ℕ} → IsFrame f → Mix f n l → frames l ≡ replicate n f
+mix-frames w x = ap framesOf (cut-is w x) ∙ frames-are x
+
+-- and the single bytes found are answers
+pub mix-answers : {f : List ℕ} {n : ℕ} {l : List ℕ} → IsFrame f → Mix f n l → All IsAnswer (singles l)
+mix-answers w x = subst (λ (ps : List Piece). All IsAnswer (singlesOf ps)) (sym (cut-is w x)) (answers-are x)
 
 -- ---- the cutting leaves no byte out
 joined-by : (m : ℕ) (l : List ℕ) → length l ≤ m → joined (cutInto m l) ≡ l

@@ -1,16 +1,28 @@
--- A send or session has at most one verdict until another is accepted.
+-- What is said and put out until another send or session is accepted: its verdict once and no more, no copy past it, and abandoned only where a restart came before it.
 -- Assumes nothing.
 use Prim.Native.Nat.{ℕ, _+_, _≤_}
-use mathlib.Core.Path.{_≡_, refl, sym, subst}
-use mathlib.Core.List.{List, [], _∷_}
+use mathlib.Core.Path.{_≡_, refl, ap, ap₂, sym, _∙_, subst}
+use mathlib.Core.Bool.{Bool, true, false}
+use mathlib.Core.List.{List, [], _∷_, _++_}
 use native.Mathlib.Omega.{arith}
-use Rattle.job.specs.Rules.{Rules}
+use lib.Dec.{eqb, ltb}
+use lib.ListN.{length, take, replicate}
+use Rattle.frame.specs.Pick.{pick}
+use Rattle.job.specs.Rules.{Rules, Cause, told, time}
+use Rattle.job.specs.Job.{start, fail, lose}
+use Rattle.job.specs.Ticks.{onTick, onAbort}
 use Rattle.reception.specs.Hearing.{heardByte, heardTick}
-use Rattle.sending.specs.Events.{act, onRestart}
+use Rattle.sending.specs.Events.{acknowledge, onSingle, release, awaits, onEnd, act, copiesOf, abandonedSend, abandonedAsk, onRestart}
+use Rattle.report.specs.Report.{replyBytes, saidOn}
 use Rattle.link.specs.Step.{Out, Taken, byteOut, tickOut, restartOut, news, runFrom, runOut, quiet}
 use Rattle.step.specs.Checks.{roomChecks}
+use Rattle.step.proofs.Passed.{room-passed}
 use Rattle.step.specs.declared.checks.Checked.{Checked}
 use Rattle.step.specs.declared.checks.Checked.the-variants.{Passes, Refuses}
+use Rattle.reception.specs.declared.hearing.Hearing.{Hearing}
+use Rattle.reception.specs.declared.hearing.Single.{Single}
+use Rattle.reception.specs.declared.hearing.Single.the-variants.{Ack, Nak, Can}
+use Rattle.reception.specs.declared.hearing.End.{End}
 use Rattle.reception.specs.declared.hearing.End.the-variants as end
 use Rattle.reception.specs.declared.hearing.Event.{Event}
 use Rattle.reception.specs.declared.hearing.Event.the-variants.{Inside, Kept, Skipped, Alone, Ended, TickHunting, TickInside, Aborted}
@@ -19,144 +31,366 @@ use Rattle.job.specs.declared.job.Asking.{Asking}
 use Rattle.job.specs.declared.job.Asking.the-variants.{Plain, Asks}
 use Rattle.job.specs.declared.job.Job.{Job}
 use Rattle.job.specs.declared.job.Job.the-variants.{Idle, Due, Waiting, BackingOff, Awaiting}
+use Rattle.job.specs.declared.report.Sending.{Sending}
+use Rattle.job.specs.declared.report.Sending.the-variants as sending
+use Rattle.job.specs.declared.report.Session.{Session}
+use Rattle.job.specs.declared.report.Session.the-variants as session
+use Rattle.report.specs.declared.report.Reply.{Reply}
 use Rattle.link.specs.declared.state.Link.{Link}
-use Rattle.history.specs.Calls.{What, byte, bytes, tick, send, session, restart, Call, checksOf, outOf, doneBy}
-use Rattle.history.specs.Watch.{Says, none, says, verdictIn, verdictOf, count, countTaken, countDone, verdicts}
+use Rattle.history.specs.Calls.{What, byte, bytes, tick, send, session as sessionCall, restart, Call, checksOf, outOf, doneBy}
+use Rattle.history.specs.Cut.{frames, nak}
+use Rattle.history.specs.Bound.{Fits}
+use Rattle.history.specs.Watch.{copiesIn, Says, none, says, sendVerdict, sessionVerdict, verdictIn, verdictOf, Watch, going, gone, ended, add, onward, watchTaken, watchDone, watch, outsTaken, outsDone, outs, count, verdictsOf, abandonsIn, abandonsOf, linesOf, verdictsBy, abandonsBy}
+use Rattle.history.specs.Demand3.{Spent}
+use Rattle.history.proofs.Mix.{Mix, end as finish, one, mix-append, IsFrame, mix-frames}
 use Rattle.history.proofs.Reception.{pick-ok}
-use Rattle.history.proofs.Job.{Fits}
-use Rattle.history.proofs.Links.{Sends, Outcome, byte-gave, tick-gave, run-gave}
+use Rattle.history.proofs.Job.{Good, due, waits, backs, awaiting, good-few, no-verdict}
+use Rattle.history.proofs.Links.{Sends, Outcome, reply-mix, byte-gave, tick-gave, run-gave}
+use Rattle.history.proofs.Histories.{send-passed, session-passed}
+use Rattle.history.proofs.Watching.{none-free}
 
--- ---- nothing is open: a call leaves it so and says no verdict
-pub record Rests (a : Asking) (o : Out) : Type 0 where
+-- ---- no byte and no tick says abandoned
+abbrev Unsaid : Act → Type 0
+Unsaid x = abandonsIn (x .sending) (x .session) ≡ 0
+
+start-unsaid : (hunting : Bool) (a : Asking) (n : ℕ) → Unsaid (start hunting a n)
+start-unsaid true a n = refl
+start-unsaid false a n = refl
+
+fail-unsaid : (a : Asking) (n : ℕ) → Unsaid (fail a n)
+fail-unsaid Plain n = refl
+fail-unsaid (Asks c) n = refl
+
+lose-unsaid : (R : Rules) (cause : Cause) (hunting : Bool) (a : Asking) (n : ℕ) → Unsaid (lose R cause hunting a n)
+lose-unsaid R cause hunting a n =
+    pick-ok Unsaid (ltb n 4) _ _ (pick-ok Unsaid (eqb (R .back cause n) 0) _ _ (start-unsaid hunting a n) refl) (fail-unsaid a n)
+
+ack-unsaid : (a : Asking) (n : ℕ) → Unsaid (acknowledge a n)
+ack-unsaid Plain n = refl
+ack-unsaid (Asks c) n = refl
+
+single-unsaid : (R : Rules) (s : Single) (j : Job) → Unsaid (onSingle R s j)
+single-unsaid R s Idle = refl
+single-unsaid R s (Due a n) = refl
+single-unsaid R Ack (Waiting a n e) = ack-unsaid a n
+single-unsaid R Nak (Waiting a n e) = lose-unsaid R told true a n
+single-unsaid R Can (Waiting a n e) = lose-unsaid R told true a n
+single-unsaid R s (BackingOff a n b) = refl
+single-unsaid R s (Awaiting c n e) = refl
+
+release-unsaid : (j : Job) → Unsaid (release j)
+release-unsaid Idle = refl
+release-unsaid (Due a n) = refl
+release-unsaid (Waiting a n e) = refl
+release-unsaid (BackingOff a n b) = refl
+release-unsaid (Awaiting c n e) = refl
+
+end-unsaid : (e : End) (j : Job) → Unsaid (onEnd e j)
+end-unsaid end.BadLength j = release-unsaid j
+end-unsaid end.BadSum j = release-unsaid j
+end-unsaid end.Reserved j = release-unsaid j
+end-unsaid (end.Request size) j = release-unsaid j
+end-unsaid (end.Response size command) j = pick-ok Unsaid (awaits command j) _ _ refl (release-unsaid j)
+
+time-unsaid : (R : Rules) (size : ℕ) (hunting : Bool) (j : Job) → Unsaid (onTick R size hunting j)
+time-unsaid R size hunting Idle = refl
+time-unsaid R size hunting (Due a n) = refl
+time-unsaid R size hunting (Waiting a n e) = pick-ok Unsaid (ltb (e + 1) (R .wait size)) _ _ refl (lose-unsaid R time hunting a n)
+time-unsaid R size hunting (BackingOff a n b) = pick-ok Unsaid (ltb 1 b) _ _ refl (start-unsaid hunting a n)
+time-unsaid R size hunting (Awaiting c n e) = pick-ok Unsaid (ltb (e + 1) 5000) _ _ refl refl
+
+abort-unsaid : (R : Rules) (size : ℕ) (j : Job) → Unsaid (onAbort R size j)
+abort-unsaid R size Idle = refl
+abort-unsaid R size (Due a n) = refl
+abort-unsaid R size (Waiting a n e) = time-unsaid R size true (Waiting a n e)
+abort-unsaid R size (BackingOff a n b) = time-unsaid R size true (BackingOff a n b)
+abort-unsaid R size (Awaiting c n e) = time-unsaid R size true (Awaiting c n e)
+
+act-unsaid : (R : Rules) (size : ℕ) (e : Event) (j : Job) → Unsaid (act R size e j)
+act-unsaid R size Inside j = refl
+act-unsaid R size (Kept at) j = refl
+act-unsaid R size Skipped j = refl
+act-unsaid R size (Alone s) j = single-unsaid R s j
+act-unsaid R size (Ended e) j = end-unsaid e j
+act-unsaid R size TickHunting j = time-unsaid R size true j
+act-unsaid R size TickInside j = time-unsaid R size false j
+act-unsaid R size Aborted j = abort-unsaid R size j
+
+abbrev pub NotAbandoned : Out → Type 0
+NotAbandoned o = abandonsIn (o .sending) (o .session) ≡ 0
+
+pub byte-unsaid : (R : Rules) (l : Link) (b : ℕ) → NotAbandoned (byteOut R l b)
+unfolding byteOut
+byte-unsaid R l b = act-unsaid R (l .core .size) ((heardByte b (l .core .hearing)) .event) (l .core .job)
+
+pub tick-unsaid : (R : Rules) (l : Link) → NotAbandoned (tickOut R l)
+unfolding tickOut
+tick-unsaid R l = act-unsaid R (l .core .size) ((heardTick (l .core .hearing)) .event) (l .core .job)
+
+from-unsaid : (R : Rules) (bs : List ℕ) (k : ℕ) (o : Out) → NotAbandoned o → NotAbandoned ((runFrom R o k bs) .out)
+unfolding runFrom
+from-unsaid R [] k o q = q
+from-unsaid R (b ∷ bs) k o q =
+    let r = byte-unsaid R (o .link) b in
+    pick-ok (λ (z : Taken). NotAbandoned (z .out)) (news (byteOut R (o .link) b)) _ _ r (from-unsaid R bs (k + 1) (byteOut R (o .link) b) r)
+
+pub run-unsaid : (R : Rules) (l : Link) (bs : List ℕ) → NotAbandoned ((runOut R l bs) .out)
+run-unsaid R l bs = from-unsaid R bs 0 (quiet l) refl
+
+-- a restart does, of an open send or session, in one part; its verdict is none
+record Dropped (a : Asking) : Type 0 where
+  send : sendVerdict (abandonedSend a) ≡ none
+  ask : sessionVerdict (abandonedAsk a) ≡ none
+  said : abandonsIn (abandonedSend a) (abandonedAsk a) ≡ 1
+
+dropped : (a : Asking) → Dropped a
+dropped Plain = record { send = refl; ask = refl; said = refl }
+dropped (Asks c) = record { send = refl; ask = refl; said = refl }
+
+drop-none : (a b : Asking) → verdictIn a (abandonedSend b) (abandonedAsk b) ≡ none
+drop-none a b = no-verdict a _ _ ((dropped b) .send) ((dropped b) .ask)
+
+restart-none : (a : Asking) (l : Link) → verdictOf a (restartOut l) ≡ none
+unfolding restartOut
+restart-none a l = by (l .core .job)
+  where
+    by : (j : Job) → verdictIn a ((onRestart j) .sending) ((onRestart j) .session) ≡ none
+    by Idle = no-verdict a sending.Nothing session.Nothing refl refl
+    by (Due b n) = drop-none a b
+    by (Waiting b n e) = drop-none a b
+    by (BackingOff b n e) = drop-none a b
+    by (Awaiting c n e) = drop-none a (Asks c)
+
+restart-says : {R : Rules} {f : List ℕ} {a : Asking} {l : Link} → Sends R f a l → abandonsIn ((restartOut l) .sending) ((restartOut l) .session) ≡ 1
+unfolding restartOut
+restart-says d = by (d .good)
+  where
+    by : {R : Rules} {size : ℕ} {h : Hearing} {a : Asking} {j : Job} → Good R size h a j → abandonsIn ((onRestart j) .sending) ((onRestart j) .session) ≡ 1
+    by (due {a} k w) = (dropped a) .said
+    by (waits {a} p k w) = (dropped a) .said
+    by (backs {a} p k w) = (dropped a) .said
+    by (awaiting {c} p k w) = (dropped (Asks c)) .said
+
+restart-idle : (l : Link) → (restartOut l) .link .core .job ≡ Idle
+unfolding restartOut
+restart-idle l = refl
+
+restart-line : (f : List ℕ) (l : Link) → Mix f 0 ((restartOut l) .line)
+unfolding restartOut
+restart-line f l = one 0x15 nak finish
+
+-- ---- nothing is open: a call leaves it so, says no verdict and not abandoned, and puts out no copy
+record Still (x : Act) : Type 0 where
+  send : sendVerdict (x .sending) ≡ none
+  ask : sessionVerdict (x .session) ≡ none
+  idle : x .job ≡ Idle
+  copy : x .copy ≡ false
+
+act-rests : (R : Rules) (size : ℕ) (e : Event) → Still (act R size e Idle)
+act-rests R size Inside = record { send = refl; ask = refl; idle = refl; copy = refl }
+act-rests R size (Kept at) = record { send = refl; ask = refl; idle = refl; copy = refl }
+act-rests R size Skipped = record { send = refl; ask = refl; idle = refl; copy = refl }
+act-rests R size (Alone s) = record { send = refl; ask = refl; idle = refl; copy = refl }
+act-rests R size (Ended end.BadLength) = record { send = refl; ask = refl; idle = refl; copy = refl }
+act-rests R size (Ended end.BadSum) = record { send = refl; ask = refl; idle = refl; copy = refl }
+act-rests R size (Ended end.Reserved) = record { send = refl; ask = refl; idle = refl; copy = refl }
+act-rests R size (Ended (end.Request s)) = record { send = refl; ask = refl; idle = refl; copy = refl }
+act-rests R size (Ended (end.Response s c)) = record { send = refl; ask = refl; idle = refl; copy = refl }
+act-rests R size TickHunting = record { send = refl; ask = refl; idle = refl; copy = refl }
+act-rests R size TickInside = record { send = refl; ask = refl; idle = refl; copy = refl }
+act-rests R size Aborted = record { send = refl; ask = refl; idle = refl; copy = refl }
+
+acts-rests : (R : Rules) (size : ℕ) (e : Event) (j : Job) → j ≡ Idle → Still (act R size e j)
+acts-rests R size e j q = subst (λ (x : Job). Still (act R size e x)) (sym q) (act-rests R size e)
+
+pub record Rests (f : List ℕ) (a : Asking) (o : Out) : Type 0 where
   pub verdict : verdictOf a o ≡ none
+  pub unsaid : NotAbandoned o
+  pub line : Mix f 0 (o .line)
   pub idle : o .link .core .job ≡ Idle
 
-record Still (a : Asking) (x : Act) : Type 0 where
-  verdict : verdictIn a (x .sending) (x .session) ≡ none
-  idle : x .job ≡ Idle
+-- the calls of a link with nothing open, until a send or session is accepted
+record Resting (f : List ℕ) (a : Asking) (os : List Out) : Type 0 where
+  line : Mix f 0 (linesOf os)
+  verdicts : verdictsOf a os ≡ 0
+  abandons : abandonsOf os ≡ 0
 
-act-rests : (R : Rules) (size : ℕ) (a : Asking) (e : Event) → Still a (act R size e Idle)
-act-rests R size Plain Inside = record { verdict = refl; idle = refl }
-act-rests R size Plain (Kept at) = record { verdict = refl; idle = refl }
-act-rests R size Plain Skipped = record { verdict = refl; idle = refl }
-act-rests R size Plain (Alone s) = record { verdict = refl; idle = refl }
-act-rests R size Plain (Ended end.BadLength) = record { verdict = refl; idle = refl }
-act-rests R size Plain (Ended end.BadSum) = record { verdict = refl; idle = refl }
-act-rests R size Plain (Ended end.Reserved) = record { verdict = refl; idle = refl }
-act-rests R size Plain (Ended (end.Request s)) = record { verdict = refl; idle = refl }
-act-rests R size Plain (Ended (end.Response s c)) = record { verdict = refl; idle = refl }
-act-rests R size Plain TickHunting = record { verdict = refl; idle = refl }
-act-rests R size Plain TickInside = record { verdict = refl; idle = refl }
-act-rests R size Plain Aborted = record { verdict = refl; idle = refl }
-act-rests R size (Asks k) Inside = record { verdict = refl; idle = refl }
-act-rests R size (Asks k) (Kept at) = record { verdict = refl; idle = refl }
-act-rests R size (Asks k) Skipped = record { verdict = refl; idle = refl }
-act-rests R size (Asks k) (Alone s) = record { verdict = refl; idle = refl }
-act-rests R size (Asks k) (Ended end.BadLength) = record { verdict = refl; idle = refl }
-act-rests R size (Asks k) (Ended end.BadSum) = record { verdict = refl; idle = refl }
-act-rests R size (Asks k) (Ended end.Reserved) = record { verdict = refl; idle = refl }
-act-rests R size (Asks k) (Ended (end.Request s)) = record { verdict = refl; idle = refl }
-act-rests R size (Asks k) (Ended (end.Response s c)) = record { verdict = refl; idle = refl }
-act-rests R size (Asks k) TickHunting = record { verdict = refl; idle = refl }
-act-rests R size (Asks k) TickInside = record { verdict = refl; idle = refl }
-act-rests R size (Asks k) Aborted = record { verdict = refl; idle = refl }
+done-by : (P : Watch → List Out → Type 0) (a : Asking) (w : What) (l : Link) (c : Checked) (o : Out) (k : Link → Watch) (m : Link → List Out)
+    → P (k l) (m l) → (c ≡ Passes → P (watchTaken a w o (k (o .link))) (outsTaken w o (m (o .link)))) → P (watchDone a w l (doneBy c o) k) (outsDone w l (doneBy c o) m)
+done-by P a w l Passes o k m p q = q refl
+done-by P a w l (Refuses r) o k m p q = p
 
-acts-rests : (R : Rules) (size : ℕ) (a : Asking) (e : Event) (j : Job) → j ≡ Idle → Still a (act R size e j)
-acts-rests R size a e j q = subst (λ (x : Job). Still a (act R size e x)) (sym q) (act-rests R size a e)
+module _ (R : Rules) (f : List ℕ) (a : Asking) where
+  no-copy : (r : Reply) (x : Bool) (l : List ℕ) → x ≡ false → Mix f 0 (replyBytes r ++ pick x l [])
+  no-copy r x l e = subst (λ (y : Bool). Mix f 0 (replyBytes r ++ pick y l [])) (sym e) (mix-append (reply-mix f r) finish)
 
-pub byte-rests : (R : Rules) (a : Asking) (l : Link) (b : ℕ) → l .core .job ≡ Idle → Rests a (byteOut R l b)
-unfolding byteOut
-byte-rests R a l b q =
-    let k = acts-rests R (l .core .size) a ((heardByte b (l .core .hearing)) .event) (l .core .job) q in
-    record { verdict = k .verdict; idle = k .idle }
+  pub byte-rests : (l : Link) (b : ℕ) → l .core .job ≡ Idle → Rests f a (byteOut R l b)
+  unfolding byteOut
+  byte-rests l b q =
+      let e = (heardByte b (l .core .hearing)) .event in
+      let k = acts-rests R (l .core .size) e (l .core .job) q in
+      record {
+        verdict = no-verdict a _ _ (k .send) (k .ask);
+        unsaid = byte-unsaid R l b;
+        line = no-copy ((saidOn e (l .core .job)) .reply) _ (take (l .core .size) (l .frame)) (k .copy);
+        idle = k .idle;
+      }
 
-pub tick-rests : (R : Rules) (a : Asking) (l : Link) → l .core .job ≡ Idle → Rests a (tickOut R l)
-unfolding tickOut
-tick-rests R a l q =
-    let k = acts-rests R (l .core .size) a ((heardTick (l .core .hearing)) .event) (l .core .job) q in
-    record { verdict = k .verdict; idle = k .idle }
+  pub tick-rests : (l : Link) → l .core .job ≡ Idle → Rests f a (tickOut R l)
+  unfolding tickOut
+  tick-rests l q =
+      let e = (heardTick (l .core .hearing)) .event in
+      let k = acts-rests R (l .core .size) e (l .core .job) q in
+      record {
+        verdict = no-verdict a _ _ (k .send) (k .ask);
+        unsaid = tick-unsaid R l;
+        line = no-copy ((saidOn e (l .core .job)) .reply) _ (take (l .core .size) (l .frame)) (k .copy);
+        idle = k .idle;
+      }
 
-from-rests : (R : Rules) (a : Asking) (bs : List ℕ) (k : ℕ) (o : Out) → Rests a o → Rests a ((runFrom R o k bs) .out)
-unfolding runFrom
-from-rests R a [] k o q = q
-from-rests R a (b ∷ bs) k o q =
-    let r = byte-rests R a (o .link) b (q .idle) in
-    pick-ok (λ (z : Taken). Rests a (z .out)) (news (byteOut R (o .link) b)) _ _ r (from-rests R a bs (k + 1) (byteOut R (o .link) b) r)
+  from-rests : (bs : List ℕ) (k : ℕ) (o : Out) → Rests f a o → Rests f a ((runFrom R o k bs) .out)
+  unfolding runFrom
+  from-rests [] k o q = q
+  from-rests (b ∷ bs) k o q =
+      let r = byte-rests (o .link) b (q .idle) in
+      pick-ok (λ (z : Taken). Rests f a (z .out)) (news (byteOut R (o .link) b)) _ _ r (from-rests bs (k + 1) (byteOut R (o .link) b) r)
 
-quiet-none : (a : Asking) (l : Link) → verdictOf a (quiet l) ≡ none
-quiet-none Plain l = refl
-quiet-none (Asks c) l = refl
+  run-rests : (l : Link) (bs : List ℕ) → l .core .job ≡ Idle → Rests f a ((runOut R l bs) .out)
+  run-rests l bs q =
+      from-rests bs 0 (quiet l) (record { verdict = no-verdict a sending.Nothing session.Nothing refl refl; unsaid = refl; line = finish; idle = q })
 
-run-rests : (R : Rules) (a : Asking) (l : Link) (bs : List ℕ) → l .core .job ≡ Idle → Rests a ((runOut R l bs) .out)
-run-rests R a l bs q = from-rests R a bs 0 (quiet l) (record { verdict = quiet-none a l; idle = q })
+  restart-rests : (l : Link) → l .core .job ≡ Idle → Rests f a (restartOut l)
+  unfolding restartOut
+  restart-rests l q =
+      record {
+        verdict = restart-none a l;
+        unsaid = ap (λ (j : Job). abandonsIn ((onRestart j) .sending) ((onRestart j) .session)) q;
+        line = restart-line f l;
+        idle = restart-idle l;
+      }
 
--- a restart says abandoned, which is no verdict, and leaves nothing open
-dropped-none : (a b : Asking) → verdictIn a ((onRestart (Due b 0)) .sending) ((onRestart (Due b 0)) .session) ≡ none
-dropped-none Plain Plain = refl
-dropped-none Plain (Asks c) = refl
-dropped-none (Asks k) Plain = refl
-dropped-none (Asks k) (Asks c) = refl
+  rests-on : (o : Out) (os : List Out) → Rests f a o → Resting f a os → Resting f a (o ∷ os)
+  rests-on o os r s =
+      record {
+        line = mix-append (r .line) (s .line);
+        verdicts = ap₂ (λ (x : Says) (n : ℕ). count x + n) (r .verdict) (s .verdicts);
+        abandons = ap₂ (λ (m n : ℕ). m + n) (r .unsaid) (s .abandons);
+      }
 
-drops-none : (a : Asking) (j : Job) → verdictIn a ((onRestart j) .sending) ((onRestart j) .session) ≡ none
-drops-none Plain Idle = refl
-drops-none (Asks k) Idle = refl
-drops-none a (Due b n) = dropped-none a b
-drops-none a (Waiting b n e) = dropped-none a b
-drops-none a (BackingOff b n e) = dropped-none a b
-drops-none a (Awaiting c n e) = dropped-none a (Asks c)
+  none-rests : Resting f a []
+  none-rests = record { line = finish; verdicts = refl; abandons = refl }
 
-restart-rests : (a : Asking) (l : Link) → Rests a (restartOut l)
-unfolding restartOut
-restart-rests a l = record { verdict = drops-none a (l .core .job); idle = refl }
+  rests-taken : (w : What) (l : Link) (m : Link → List Out) → l .core .job ≡ Idle → ((z : Link) → z .core .job ≡ Idle → Resting f a (m z))
+      → Resting f a (outsTaken w (outOf R l w) (m ((outOf R l w) .link)))
+  rests-taken (byte b) l m q i = let r = byte-rests l b q in rests-on _ _ r (i _ (r .idle))
+  rests-taken (bytes bs) l m q i = let r = run-rests l bs q in rests-on _ _ r (i _ (r .idle))
+  rests-taken tick l m q i = let r = tick-rests l q in rests-on _ _ r (i _ (r .idle))
+  rests-taken (send kind command ps) l m q i = none-rests
+  rests-taken (sessionCall command ps) l m q i = none-rests
+  rests-taken restart l m q i = let r = restart-rests l q in rests-on _ _ r (i _ (r .idle))
 
--- ---- counting
-done-most : (m : ℕ) (a : Asking) (w : What) (l : Link) (c : Checked) (o : Out) (k : Link → ℕ) → k l ≤ m → countTaken a w o (k (o .link)) ≤ m
-    → countDone a w l (doneBy c o) k ≤ m
-done-most m a w l Passes o k p q = q
-done-most m a w l (Refuses r) o k p q = p
+  idle-rests : (h : List Call) (l : Link) → l .core .job ≡ Idle → Resting f a (outs R l h)
+  idle-rests [] l q = none-rests
+  idle-rests (c ∷ h) l q =
+      done-by (λ _ os. Resting f a os) a (c .what) l (roomChecks (c .line) (c .up) (checksOf l (c .what))) (outOf R l (c .what)) (λ z. watch R a z h) (λ z. outs R z h)
+      (idle-rests h l q)
+      (λ _. rests-taken (c .what) l (λ z. outs R z h) q (idle-rests h))
 
-rests-most : (m n : ℕ) (s : Says) → s ≡ none → n ≤ m → count s + n ≤ m
-rests-most m n s e h = rw e (omega arith)
+-- ---- an open send or session, beside its watch: n copies had gone out before
+abbrev SpentBy : ℕ → Watch → Type 0
+SpentBy m (going t l) = Unit {0}
+SpentBy m gone = Unit {0}
+SpentBy m (ended v t l) = copiesIn v ≡ m
 
-module _ (R : Rules) (a : Asking) where
-  taken-none : (w : What) (l : Link) (k : Link → ℕ) → l .core .job ≡ Idle → ((z : Link) → z .core .job ≡ Idle → k z ≤ 0)
-      → countTaken a w (outOf R l w) (k ((outOf R l w) .link)) ≤ 0
-  taken-none (byte b) l k q i = let r = byte-rests R a l b q in rests-most 0 _ _ (r .verdict) (i _ (r .idle))
-  taken-none (bytes bs) l k q i = let r = run-rests R a l bs q in rests-most 0 _ _ (r .verdict) (i _ (r .idle))
-  taken-none tick l k q i = let r = tick-rests R a l q in rests-most 0 _ _ (r .verdict) (i _ (r .idle))
-  taken-none (send kind command ps) l k q i = omega arith
-  taken-none (session command ps) l k q i = omega arith
-  taken-none restart l k q i = let r = restart-rests a l in rests-most 0 _ _ (r .verdict) (i _ (r .idle))
+pub record Sofar (f : List ℕ) (a : Asking) (n : ℕ) (w : Watch) (os : List Out) : Type 0 where
+  pub more : ℕ
+  pub mix : Mix f more (linesOf os)
+  pub few : n + more ≤ 4
+  pub spent : SpentBy (n + more) w
+  pub said : verdictsOf a os ≡ verdictsBy w
+  pub abandoned : abandonsOf os ≡ abandonsBy w
 
-  idle-none : (h : List Call) (l : Link) → l .core .job ≡ Idle → verdicts R a l h ≤ 0
-  idle-none [] l q = omega arith
-  idle-none (c ∷ h) l q =
-      done-most 0 a (c .what) l (roomChecks (c .line) (c .up) (checksOf l (c .what))) (outOf R l (c .what)) (λ z. verdicts R a z h) (idle-none h l q)
-      (taken-none (c .what) l (λ z. verdicts R a z h) q (idle-none h))
+add-spent : (t m n : ℕ) (l : List ℕ) (w : Watch) → m ≡ n → SpentBy m w → SpentBy n (add t l w)
+add-spent t m n l (going u k) e s = tt
+add-spent t m n l gone e s = tt
+add-spent t m n l (ended v u k) e s = s ∙ e
+
+add-verdicts : (t : ℕ) (l : List ℕ) (w : Watch) → verdictsBy w ≡ verdictsBy (add t l w)
+add-verdicts t l (going u k) = refl
+add-verdicts t l gone = refl
+add-verdicts t l (ended v u k) = refl
+
+add-abandons : (t : ℕ) (l : List ℕ) (w : Watch) → abandonsBy w ≡ abandonsBy (add t l w)
+add-abandons t l (going u k) = refl
+add-abandons t l gone = refl
+add-abandons t l (ended v u k) = refl
 
 module _ (R : Rules) (g : ℕ → ℕ) (fit : Fits R g) (f : List ℕ) (a : Asking) where
-  pub onward-once : (s : Says) (L n t k : ℕ) (o : Out) → Outcome R g f a L n t s o → (Sends R f a (o .link) → k ≤ 1) → (o .link .core .job ≡ Idle → k ≤ 0) → count s + k ≤ 1
-  onward-once none L n t k o c p q = omega (arith, p (c .sends))
-  onward-once (says v) L n t k o c p q = omega (arith, q (c .1))
+  onward-sofar : (s : Says) (L n t : ℕ) (o : Out) (w : Watch) (os : List Out) → verdictOf a o ≡ s → NotAbandoned o → Outcome R g f a L n t s o
+      → (Sends R f a (o .link) → Sofar f a (copiesOf (o .link .core .job)) w os) → (o .link .core .job ≡ Idle → Resting f a os)
+      → Sofar f a n (onward s t (o .line) w) (o ∷ os)
+  onward-sofar none L n t o w os v b c p q =
+      let r = p (c .sends) in
+      record {
+        more = c .more + r .more;
+        mix = mix-append (c .mix) (r .mix);
+        few = omega (arith, c .count, r .few);
+        spent = add-spent t _ _ (o .line) w (omega (arith, c .count)) (r .spent);
+        said = ap (λ (x : Says). count x + verdictsOf a os) v ∙ (let e : 0 + verdictsOf a os ≡ verdictsOf a os = omega arith in e) ∙ r .said ∙ add-verdicts t (o .line) w;
+        abandoned = ap (λ (m : ℕ). m + abandonsOf os) b ∙ (let e : 0 + abandonsOf os ≡ abandonsOf os = omega arith in e) ∙ r .abandoned ∙ add-abandons t (o .line) w;
+      }
+  onward-sofar (says v) L n t o w os e b c p q =
+      let r = q (c .1) in
+      record {
+        more = c .0 .more + 0;
+        mix = mix-append (c .0 .mix) (r .line);
+        few = omega (arith, c .0 .count, c .0 .few);
+        spent = omega (arith, c .0 .count);
+        said = ap₂ (λ (x : Says) (m : ℕ). count x + m) e (r .verdicts);
+        abandoned = ap₂ (λ (m k : ℕ). m + k) b (r .abandons);
+      }
 
-  taken-once : (w : What) (l : Link) (k : Link → ℕ) → Sends R f a l → ((z : Link) → Sends R f a z → k z ≤ 1) → ((z : Link) → z .core .job ≡ Idle → k z ≤ 0)
-      → countTaken a w (outOf R l w) (k ((outOf R l w) .link)) ≤ 1
-  taken-once (byte b) l k d i j = onward-once (verdictOf a (outOf R l (byte b))) _ _ 0 _ _ (byte-gave R g fit f a l b d) (i _) (j _)
-  taken-once (bytes bs) l k d i j = onward-once (verdictOf a (outOf R l (bytes bs))) _ _ 0 _ _ (run-gave R g fit f a l bs d) (i _) (j _)
-  taken-once tick l k d i j = onward-once (verdictOf a (outOf R l tick)) _ _ 1 _ _ (tick-gave R g fit f a l d) (i _) (j _)
-  taken-once (send kind command ps) l k d i j = omega arith
-  taken-once (session command ps) l k d i j = omega arith
-  taken-once restart l k d i j =
-      let r = restart-rests a l in
-      let z : k ((restartOut l) .link) ≤ 0 = j _ (r .idle) in
-      rests-most 1 _ _ (r .verdict) (omega arith)
+  restarted : (l : Link) (os : List Out) → Sends R f a l → Resting f a os → Sofar f a (copiesOf (l .core .job)) gone (restartOut l ∷ os)
+  restarted l os d r =
+      record {
+        more = 0;
+        mix = mix-append (restart-line f l) (r .line);
+        few = omega (arith, good-few (d .good));
+        spent = tt;
+        said = ap₂ (λ (y : Says) (n : ℕ). count y + n) (restart-none a l) (r .verdicts);
+        abandoned = ap₂ (λ (y n : ℕ). y + n) (restart-says d) (r .abandons);
+      }
 
-  pub open-once : (h : List Call) (l : Link) → Sends R f a l → verdicts R a l h ≤ 1
-  open-once [] l d = omega arith
-  open-once (c ∷ h) l d =
-      done-most 1 a (c .what) l (roomChecks (c .line) (c .up) (checksOf l (c .what))) (outOf R l (c .what)) (λ z. verdicts R a z h) (open-once h l d)
-      (taken-once (c .what) l (λ z. verdicts R a z h) d (open-once h) (idle-none R a h))
+  taken-sofar : (w : What) (l : Link) (k : Link → Watch) (m : Link → List Out) → Sends R f a l → checksOf l w ≡ Passes
+      → ((z : Link) → Sends R f a z → Sofar f a (copiesOf (z .core .job)) (k z) (m z)) → ((z : Link) → z .core .job ≡ Idle → Resting f a (m z))
+      → Sofar f a (copiesOf (l .core .job)) (watchTaken a w (outOf R l w) (k ((outOf R l w) .link))) (outsTaken w (outOf R l w) (m ((outOf R l w) .link)))
+  taken-sofar (byte b) l k m d e i j =
+      onward-sofar (verdictOf a (outOf R l (byte b))) _ _ 0 _ _ _ refl (byte-unsaid R l b) (byte-gave R g fit f a l b d) (i _) (j _)
+  taken-sofar (bytes bs) l k m d e i j =
+      onward-sofar (verdictOf a (outOf R l (bytes bs))) _ _ 0 _ _ _ refl (run-unsaid R l bs) (run-gave R g fit f a l bs d) (i _) (j _)
+  taken-sofar tick l k m d e i j = onward-sofar (verdictOf a (outOf R l tick)) _ _ 1 _ _ _ refl (tick-unsaid R l) (tick-gave R g fit f a l d) (i _) (j _)
+  taken-sofar (send kind command ps) l k m d e i j = absurd (none-free d (send-passed l kind (length ps) e))
+  taken-sofar (sessionCall command ps) l k m d e i j = absurd (none-free d (session-passed l (length ps) e))
+  taken-sofar restart l k m d e i j = restarted l (m ((restartOut l) .link)) d (j _ (restart-idle l))
+
+  open-sofar : (h : List Call) (l : Link) → Sends R f a l → Sofar f a (copiesOf (l .core .job)) (watch R a l h) (outs R l h)
+  open-sofar [] l d = record { more = 0; mix = finish; few = omega (arith, good-few (d .good)); spent = tt; said = refl; abandoned = refl }
+  open-sofar (c ∷ h) l d =
+      done-by (Sofar f a (copiesOf (l .core .job))) a (c .what) l (roomChecks (c .line) (c .up) (checksOf l (c .what))) (outOf R l (c .what)) (λ z. watch R a z h) (λ z. outs R z h)
+      (open-sofar h l d)
+      (λ e. taken-sofar (c .what) l (λ z. watch R a z h) (λ z. outs R z h) d (room-passed (c .line) (c .up) (checksOf l (c .what)) e .2) (open-sofar h) (idle-rests R f a h))
 
   -- from the accepting call, which gave o
-  pub once-from : (h : List Call) (L n t : ℕ) (o : Out) → Outcome R g f a L n t (verdictOf a o) o → count (verdictOf a o) + verdicts R a (o .link) h ≤ 1
-  once-from h L n t o c = onward-once (verdictOf a o) L n t _ o c (open-once h (o .link)) (idle-none R a h (o .link))
+  pub sofar-from : (h : List Call) (L n t : ℕ) (o : Out) → NotAbandoned o → Outcome R g f a L n t (verdictOf a o) o
+      → Sofar f a n (onward (verdictOf a o) t (o .line) (watch R a (o .link) h)) (o ∷ outs R (o .link) h)
+  sofar-from h L n t o b c = onward-sofar (verdictOf a o) L n t o _ _ refl b c (open-sofar h (o .link)) (idle-rests R f a h (o .link))
+
+pub one-at-most : (w : Watch) → verdictsBy w ≤ 1
+one-at-most (going t l) = omega arith
+one-at-most gone = omega arith
+one-at-most (ended v t l) = omega arith
+
+pub spent-is : {f line : List ℕ} {m : ℕ} → IsFrame f → Mix f m line → (w : Watch) → SpentBy (0 + m) w → Spent f line w
+spent-is i x (going t l) e = tt
+spent-is i x gone e = tt
+spent-is {f} {line} {m} i x (ended v t l) e = mix-frames i x ∙ ap (λ (n : ℕ). replicate n f) (let q : m ≡ copiesIn v = omega arith in q)

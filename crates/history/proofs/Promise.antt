@@ -1,48 +1,31 @@
--- What the link's calls promise is what a history performs: the link handed back, the answer, and every lent byte.
+-- What the link's calls promise is what a history performs: the links handed back, the answers, and every lent byte.
 -- Assumes nothing.
 use Prim.Native.Nat.{ℕ}
-use mathlib.Core.Path.{_≡_, refl, ap, _∙_}
-use mathlib.Core.List.{List, []}
+use mathlib.Core.Path.{_≡_, refl, ap, sym, _∙_, subst}
+use mathlib.Core.List.{List, [], _∷_}
 use lib.ListN.{length}
 use Rattle.frame.specs.Bytes.{over}
+use Rattle.frame.specs.Frame.{frameOf}
 use Rattle.job.specs.Rules.{Rules}
-use Rattle.link.specs.Step.{Out, Taken, reportOf, runOut}
-use Rattle.step.specs.Checks.{checks}
+use Rattle.job.specs.declared.job.Asking.the-variants.{Plain, Asks}
+use Rattle.link.specs.State.{freshLink}
+use Rattle.link.specs.Step.{Out, Taken, byteOut, tickOut, openOut, restartOut, runOut}
+use Rattle.step.specs.Checks.{checks, sendChecks, sessionChecks}
 use Rattle.step.specs.declared.checks.Checked.{Checked}
 use Rattle.step.specs.declared.checks.Checked.the-variants.{Passes, Refuses}
-use Rattle.link.specs.Calls.{answered, ran, left, Call as CallPromise, Run as RunPromise}
-use Rattle.link.specs.declared.calls.Answer.{Answer}
-use Rattle.link.specs.declared.calls.Answer.the-variants as answer
+use Rattle.link.specs.Calls.{answered as answeredBy, ran as ranBy, left, Call as CallPromise, Run as RunPromise}
 use Rattle.link.specs.declared.calls.Answered.{Answered}
 use Rattle.link.specs.declared.calls.Ran.{Ran}
-use Rattle.link.specs.declared.calls.RunAnswer.{RunAnswer}
-use Rattle.link.specs.declared.calls.RunAnswer.the-variants as run
 use Rattle.link.specs.declared.state.Link.{Link}
-use Rattle.history.specs.Calls.{What, bytes, checksOf, outOf, Done, refused, took, doneBy, perform}
-use Rattle.history.specs.History.{next}
+use Rattle.history.specs.Calls.{What, byte, bytes, tick, send, session, restart, Call, checksOf, outOf, Done, doneBy, perform}
+use Rattle.history.specs.History.{next, run, after}
+use Rattle.history.specs.Played.{Told, answered, ran, Played, played, Promised, byteCall, bytesCall, tickCall, sendCall, sessionCall, restartCall, Plays, none, then, callOf, callsOf, answerOf, runAnswerOf, lineOf, upOf, Tied, AllTied}
 
--- what is done, as an answer and as bytes written
-abbrev pub answerOf : Done → Answer
-answerOf (refused k) = answer.Refused k
-answerOf (took o) = answer.Done (reportOf o)
-
-abbrev pub runAnswerOf : ℕ → Done → RunAnswer
-runAnswerOf n (refused k) = run.Refused k
-runAnswerOf n (took o) = run.Done (reportOf o) n
-
-abbrev pub lineOf : Done → List ℕ
-lineOf (refused k) = []
-lineOf (took o) = o .line
-
-abbrev pub upOf : Done → List ℕ
-upOf (refused k) = []
-upOf (took o) = o .up
-
-next-is : (c : Checked) (o : Out) (l : Link) → (answered c o l) .link ≡ next l (doneBy c o)
+next-is : (c : Checked) (o : Out) (l : Link) → (answeredBy c o l) .link ≡ next l (doneBy c o)
 next-is Passes o l = refl
 next-is (Refuses k) o l = refl
 
-answer-is : (c : Checked) (o : Out) (l : Link) → (answered c o l) .answer ≡ answerOf (doneBy c o)
+answer-is : (c : Checked) (o : Out) (l : Link) → (answeredBy c o l) .answer ≡ answerOf (doneBy c o)
 answer-is Passes o l = refl
 answer-is (Refuses k) o l = refl
 
@@ -54,47 +37,106 @@ up-is : (c : Checked) (o : Out) (lent : List ℕ) → left c (o .up) lent ≡ ov
 up-is Passes o lent = refl
 up-is (Refuses k) o lent = refl
 
-ran-next : (c : Checked) (t : Taken) (l : Link) → (ran c t l) .link ≡ next l (doneBy c (t .out))
+ran-next : (c : Checked) (t : Taken) (l : Link) → (ranBy c t l) .link ≡ next l (doneBy c (t .out))
 ran-next Passes t l = refl
 ran-next (Refuses k) t l = refl
 
-ran-answer : (c : Checked) (t : Taken) (l : Link) → (ran c t l) .answer ≡ runAnswerOf (t .taken) (doneBy c (t .out))
+ran-answer : (c : Checked) (t : Taken) (l : Link) → (ranBy c t l) .answer ≡ runAnswerOf (t .taken) (doneBy c (t .out))
 ran-answer Passes t l = refl
 ran-answer (Refuses k) t l = refl
 
-pub record Tied (d : Done) (l l′ : Link) (line up line′ up′ : List ℕ) : Type 0 where
-  pub link : l′ ≡ next l d
+-- ---- one call
+-- the link handed back is the history's next, and the call is tied to it
+pub record Does (R : Rules) (l : Link) (p : Played) (m : Link) : Type 0 where
+  pub link : m ≡ next l (perform R l (callOf p))
+  pub tied : Tied R l p
+
+-- what a call that keeps a promise with these checks and this step does, as any history does it
+pub record Matches (d : Done) (l : Link) (line up : List ℕ) (r : Answered) (line′ up′ : List ℕ) : Type 0 where
+  pub link : r .link ≡ next l d
+  pub answer : r .answer ≡ answerOf d
   pub line-left : line′ ≡ over (lineOf d) line
   pub up-left : up′ ≡ over (upOf d) up
 
--- a call that keeps its promise does what the history's call does
-pub call-tied : (R : Rules) (l : Link) (w : What) (line up : List ℕ) (r : Answered) (line′ up′ : List ℕ)
-    → CallPromise (checksOf l w) (outOf R l w) l line up r line′ up′
-    → Tied (perform R l (record { what = w; line = length line; up = length up })) l (r .link) line up line′ up′
-    × (r .answer ≡ answerOf (perform R l (record { what = w; line = length line; up = length up })))
-call-tied R l w line up r line′ up′ p =
-    let c = checks line up (checksOf l w) in
-    let o = outOf R l w in (
-      record {
-        link = ap (λ (z : Answered). z .link) (p .answer) ∙ next-is c o l;
-        line-left = p .line-left ∙ line-is c o line;
-        up-left = p .up-left ∙ up-is c o up;
-      },
-      ap (λ (z : Answered). z .answer) (p .answer) ∙ answer-is c o l,
-    )
+pub call-matches : (own : Checked) (o : Out) (l : Link) (line up : List ℕ) (r : Answered) (line′ up′ : List ℕ) → CallPromise own o l line up r line′ up′
+    → Matches (doneBy (checks line up own) o) l line up r line′ up′
+call-matches own o l line up r line′ up′ p =
+    let c = checks line up own in
+    record {
+      link = ap (λ (z : Answered). z .link) (p .answer) ∙ next-is c o l;
+      answer = ap (λ (z : Answered). z .answer) (p .answer) ∙ answer-is c o l;
+      line-left = p .line-left ∙ line-is c o line;
+      up-left = p .up-left ∙ up-is c o up;
+    }
 
--- and a run of bytes
-pub run-tied : (R : Rules) (l : Link) (bs line up : List ℕ) (r : Ran) (line′ up′ : List ℕ)
-    → RunPromise (runOut R l bs) l line up r line′ up′
-    → Tied (perform R l (record { what = bytes bs; line = length line; up = length up })) l (r .link) line up line′ up′
-    × (r .answer ≡ runAnswerOf ((runOut R l bs) .taken) (perform R l (record { what = bytes bs; line = length line; up = length up })))
-run-tied R l bs line up r line′ up′ p =
-    let c = checks line up Passes in
-    let t = runOut R l bs in (
+module _ (R : Rules) (l : Link) where
+  -- Each call's promise, over the very text of its contract, is what the history's call does.
+  pub byte-tied : (b : ℕ) (line up : List ℕ) (r : Answered) (line′ up′ : List ℕ) → CallPromise Passes (byteOut R l b) l line up r line′ up′
+      → Does R l (played (byte b) line up (answered (r .answer)) line′ up′) (r .link)
+  byte-tied b line up r line′ up′ p =
+      let m = call-matches Passes (byteOut R l b) l line up r line′ up′ p in
+      record { link = m .link; tied = record { told = ap answered (m .answer); line-left = m .line-left; up-left = m .up-left } }
+
+  pub tick-tied : (line up : List ℕ) (r : Answered) (line′ up′ : List ℕ) → CallPromise Passes (tickOut R l) l line up r line′ up′
+      → Does R l (played tick line up (answered (r .answer)) line′ up′) (r .link)
+  tick-tied line up r line′ up′ p =
+      let m = call-matches Passes (tickOut R l) l line up r line′ up′ p in
+      record { link = m .link; tied = record { told = ap answered (m .answer); line-left = m .line-left; up-left = m .up-left } }
+
+  pub send-tied : (kind command : ℕ) (ps line up : List ℕ) (r : Answered) (line′ up′ : List ℕ)
+      → CallPromise (sendChecks (l .core .job) kind (length ps)) (openOut l Plain (frameOf kind command ps)) l line up r line′ up′
+      → Does R l (played (send kind command ps) line up (answered (r .answer)) line′ up′) (r .link)
+  send-tied kind command ps line up r line′ up′ p =
+      let m = call-matches (sendChecks (l .core .job) kind (length ps)) (openOut l Plain (frameOf kind command ps)) l line up r line′ up′ p in
+      record { link = m .link; tied = record { told = ap answered (m .answer); line-left = m .line-left; up-left = m .up-left } }
+
+  pub session-tied : (command : ℕ) (ps line up : List ℕ) (r : Answered) (line′ up′ : List ℕ)
+      → CallPromise (sessionChecks (l .core .job) (length ps)) (openOut l (Asks command) (frameOf 0 command ps)) l line up r line′ up′
+      → Does R l (played (session command ps) line up (answered (r .answer)) line′ up′) (r .link)
+  session-tied command ps line up r line′ up′ p =
+      let m = call-matches (sessionChecks (l .core .job) (length ps)) (openOut l (Asks command) (frameOf 0 command ps)) l line up r line′ up′ p in
+      record { link = m .link; tied = record { told = ap answered (m .answer); line-left = m .line-left; up-left = m .up-left } }
+
+  pub restart-tied : (line up : List ℕ) (r : Answered) (line′ up′ : List ℕ) → CallPromise Passes (restartOut l) l line up r line′ up′
+      → Does R l (played restart line up (answered (r .answer)) line′ up′) (r .link)
+  restart-tied line up r line′ up′ p =
+      let m = call-matches Passes (restartOut l) l line up r line′ up′ p in
+      record { link = m .link; tied = record { told = ap answered (m .answer); line-left = m .line-left; up-left = m .up-left } }
+
+  -- and a run of bytes
+  pub run-tied : (bs line up : List ℕ) (r : Ran) (line′ up′ : List ℕ) → RunPromise (runOut R l bs) l line up r line′ up′
+      → Does R l (played (bytes bs) line up (ran (r .answer)) line′ up′) (r .link)
+  run-tied bs line up r line′ up′ p =
+      let c = checks line up Passes in
+      let t = runOut R l bs in
       record {
         link = ap (λ (z : Ran). z .link) (p .answer) ∙ ran-next c t l;
-        line-left = p .line-left ∙ line-is c (t .out) line;
-        up-left = p .up-left ∙ up-is c (t .out) up;
-      },
-      ap (λ (z : Ran). z .answer) (p .answer) ∙ ran-answer c t l,
-    )
+        tied =
+            record {
+              told = ap (λ (z : Ran). ran (z .answer)) (p .answer) ∙ ap ran (ran-answer c t l);
+              line-left = p .line-left ∙ line-is c (t .out) line;
+              up-left = p .up-left ∙ up-is c (t .out) up;
+            };
+      }
+
+  promised : (p : Played) (m : Link) → Promised R l p m → Does R l p m
+  promised p m (byteCall b line up r line′ up′ k) = byte-tied b line up r line′ up′ k
+  promised p m (bytesCall bs line up r line′ up′ k) = run-tied bs line up r line′ up′ k
+  promised p m (tickCall line up r line′ up′ k) = tick-tied line up r line′ up′ k
+  promised p m (sendCall kind command ps line up r line′ up′ k) = send-tied kind command ps line up r line′ up′ k
+  promised p m (sessionCall command ps line up r line′ up′ k) = session-tied command ps line up r line′ up′ k
+  promised p m (restartCall line up r line′ up′ k) = restart-tied line up r line′ up′ k
+
+-- ---- a whole history
+-- Calls that keep their promises, one after the other: the last link is the one that the history runs to, and every call is tied to it.
+pub plays-tied : (R : Rules) (l n : Link) (ps : List Played) → Plays R l ps n → (n ≡ run R l (callsOf ps)) × AllTied R l ps
+plays-tied R l n ps (none z) = (refl, tt)
+plays-tied R l n ps (then z m w p qs k rest) =
+    let d = promised R l p m k in
+    let i = plays-tied R m n qs rest in
+    let e = d .link in
+    (i .0 ∙ ap (λ (x : Link). run R x (callsOf qs)) e, (d .tied, subst (λ (x : Link). AllTied R x qs) e (i .1)))
+
+-- from the link that opening gives
+pub plays-after : (R : Rules) (n : Link) (ps : List Played) → Plays R freshLink ps n → n ≡ after R (callsOf ps)
+plays-after R n ps k = (plays-tied R freshLink n ps k) .0

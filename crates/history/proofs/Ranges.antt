@@ -3,7 +3,7 @@
 use Prim.Native.Nat.{ℕ, _+_, _≤_, _<_}
 use mathlib.Core.Path.{_≡_, refl, sym, _∙_, subst}
 use mathlib.Core.Bool.{Bool, true, false}
-use mathlib.Core.List.{List}
+use mathlib.Core.List.{List, []}
 use native.Mathlib.Omega.{arith}
 use lib.Bits.{xor-lt}
 use lib.Dec.{ltb, eqb}
@@ -38,9 +38,10 @@ use Rattle.link.specs.declared.state.Link.{Link}
 use Rattle.history.specs.Calls.{Call}
 use Rattle.history.specs.History.{after}
 use Rattle.history.specs.Watch.{Says, none, says, verdictOf}
+use Rattle.history.specs.Bound.{Fits}
 use Rattle.history.specs.Ranges.{ComeAll, IsByte, HearingIn, IsInside, JobIn, InRange}
 use Rattle.history.proofs.Reception.{pick-by, pick-ok, Within, InTime, byte-steps, tick-steps}
-use Rattle.history.proofs.Job.{Fits, Good, due, waits, backs, awaiting}
+use Rattle.history.proofs.Job.{Good, due, waits, backs, awaiting}
 use Rattle.history.proofs.Links.{Sends, Outcome, byte-gave, tick-gave}
 use Rattle.history.proofs.Histories.{Keeps, after-keeps, Any, any-calls}
 use Rattle.history.proofs.Once.{byte-rests, tick-rests}
@@ -175,12 +176,12 @@ module _ (R : Rules) (g : ℕ → ℕ) (fit : Fits R g) where
 
   byte-fine : (l : Link) (b : ℕ) → InTime (l .core .hearing) → (j : Fine R (l .core .size) (l .core .hearing) (l .core .job))
       → Fine R ((byteOut R l b) .link .core .size) ((byteOut R l b) .link .core .hearing) ((byteOut R l b) .link .core .job)
-  byte-fine l b i (idle e) = idle ((byte-rests R Plain l b e) .idle)
+  byte-fine l b i (idle e) = idle ((byte-rests R [] Plain l b e) .idle)
   byte-fine l b i (active a d) = outcome-fine R g _ a (verdictOf a (byteOut R l b)) _ _ 0 (byteOut R l b) (byte-gave R g fit _ a l b (sends l a i d))
 
   tick-fine : (l : Link) → InTime (l .core .hearing) → (j : Fine R (l .core .size) (l .core .hearing) (l .core .job))
       → Fine R ((tickOut R l) .link .core .size) ((tickOut R l) .link .core .hearing) ((tickOut R l) .link .core .job)
-  tick-fine l i (idle e) = idle ((tick-rests R Plain l e) .idle)
+  tick-fine l i (idle e) = idle ((tick-rests R [] Plain l e) .idle)
   tick-fine l i (active a d) = outcome-fine R g _ a (verdictOf a (tickOut R l)) _ _ 1 (tickOut R l) (tick-gave R g fit _ a l (sends l a i d))
 
   byte-time : (l : Link) (b : ℕ) → InTime (l .core .hearing) → InTime ((byteOut R l b) .link .core .hearing)

@@ -21,10 +21,11 @@ use Rattle.link.specs.declared.state.Link.{Link}
 use Rattle.history.specs.Calls.{What, byte, bytes, tick, send, session, restart, Call, checksOf, outOf, Done, refused, took, doneBy, perform}
 use Rattle.history.specs.History.{next, ticksOf, restartsOf, accepted, ticksIn, restartsIn}
 use Rattle.history.specs.Cut.{frames}
+use Rattle.history.specs.Bound.{Fits}
 use Rattle.history.specs.Watch.{copiesIn, Says, none, says, verdictOf, Watch, going, gone, ended, add, onward, watchTaken, watchDone, watch, watched}
 use Rattle.history.specs.Demand3.{Kept, IsOver, NotGone}
 use Rattle.history.proofs.Mix.{Mix, end as finish, mix-append, IsFrame, mix-frames}
-use Rattle.history.proofs.Job.{Fits, Good, due, waits, backs, awaiting, left-pos, good-few}
+use Rattle.history.proofs.Job.{Good, due, waits, backs, awaiting, left-pos, good-few}
 use Rattle.history.proofs.Links.{Sends, leftOn, Goes, Ends, Outcome, byte-gave, tick-gave, run-gave}
 use Rattle.history.proofs.Histories.{send-passed, session-passed, Free}
 use Rattle.step.proofs.Passed.{room-passed}
@@ -36,10 +37,10 @@ pub record Mid (f : List ℕ) (L n t : ℕ) (line : List ℕ) : Type 0 where
   pub mix : Mix f more line
   pub few : n + more ≤ 4
 
-abbrev pub Watched : List ℕ → ℕ → ℕ → Watch → Type 0
-Watched f L n (going t line) = Mid f L n t line
-Watched f L n gone = Unit {0}
-Watched f L n (ended v t line) = Ends f L n t v line
+abbrev pub Watched : List ℕ → Asking → ℕ → ℕ → Watch → Type 0
+Watched f a L n (going t line) = Mid f L n t line
+Watched f a L n gone = Unit {0}
+Watched f a L n (ended v t line) = Ends f a L n t v line
 
 pub is-open : {R : Rules} {size : ℕ} {h : Hearing} {a : Asking} {job : Job} → Good R size h a job → isOpen job ≡ true
 is-open (due k w) = refl
@@ -59,9 +60,9 @@ done-by P a w l (Refuses r) o k p q = p
 
 module _ (R : Rules) (g : ℕ → ℕ) (fit : Fits R g) (f : List ℕ) (a : Asking) where
   abbrev OnWatch : Link → Watch → Type 0
-  OnWatch l w = Watched f (leftOn R g l) (copiesOf (l .core .job)) w
+  OnWatch l w = Watched f a (leftOn R g l) (copiesOf (l .core .job)) w
 
-  add-ok : (L n t : ℕ) (o : Out) (w : Watch) → Goes R g f a L n t o → OnWatch (o .link) w → Watched f L n (add t (o .line) w)
+  add-ok : (L n t : ℕ) (o : Out) (w : Watch) → Goes R g f a L n t o → OnWatch (o .link) w → Watched f a L n (add t (o .line) w)
   add-ok L n t o (going u m) c k =
       record { soon = omega (arith, c .less, k .soon); more = c .more + k .more; mix = mix-append (c .mix) (k .mix); few = omega (arith, c .count, k .few) }
   add-ok L n t o gone c k = tt
@@ -73,10 +74,11 @@ module _ (R : Rules) (g : ℕ → ℕ) (fit : Fits R g) (f : List ℕ) (a : Aski
         count = omega (arith, c .count, k .count);
         few = k .few;
         four = k .four;
+        own = k .own;
       }
 
   pub onward-ok : (s : Says) (L n t : ℕ) (o : Out) (w : Watch) → Outcome R g f a L n t s o → (Sends R f a (o .link) → OnWatch (o .link) w)
-      → Watched f L n (onward s t (o .line) w)
+      → Watched f a L n (onward s t (o .line) w)
   onward-ok none L n t o w c k = add-ok L n t o w c (k (c .sends))
   onward-ok (says v) L n t o w c k = c .0
 
@@ -96,17 +98,18 @@ module _ (R : Rules) (g : ℕ → ℕ) (fit : Fits R g) (f : List ℕ) (a : Aski
       (λ e. taken-ok (c .what) l (λ z. watch R a z h) d (room-passed (c .line) (c .up) (checksOf l (c .what)) e .2) (watch-ok h))
 
 -- ---- from the bytes' shape to the frames found
-found : {f : List ℕ} {n : ℕ} {l : List ℕ} → IsFrame f → Mix f n l → frames l ≡ replicate n f
-found {l = l} i m = mix-frames i m (length l) (omega arith)
+pub copies-are : {f : List ℕ} {n : ℕ} {l : List ℕ} → IsFrame f → Mix f n l → frames l ≡ replicate (length (frames l)) f
+copies-are {f} {n} i m = let e = mix-frames i m in e ∙ ap (λ (k : ℕ). replicate k f) (sym (ap length e ∙ length-replicate n f))
 
-pub kept : (f : List ℕ) (L : ℕ) (w : Watch) → IsFrame f → Watched f L 0 w → Kept f L w
-kept f L (going t l) i k =
-    let e : length (frames l) ≡ k .more = ap length (found i (k .mix)) ∙ length-replicate (k .more) f in
-    record { soon = k .soon; copies = found i (k .mix) ∙ ap (λ (n : ℕ). replicate n f) (sym e); few = omega (arith, k .few) }
-kept f L gone i k = tt
-kept f L (ended v t l) i k =
+pub copies-number : {f : List ℕ} {n : ℕ} {l : List ℕ} → IsFrame f → Mix f n l → length (frames l) ≡ n
+copies-number {f} {n} i m = ap length (mix-frames i m) ∙ length-replicate n f
+
+pub kept : (f : List ℕ) (a : Asking) (L : ℕ) (w : Watch) → IsFrame f → Watched f a L 0 w → Kept a f L w
+kept f a L (going t l) i k = record { soon = k .soon; copies = copies-are i (k .mix); few = omega (arith, k .few, copies-number i (k .mix)) }
+kept f a L gone i k = tt
+kept f a L (ended v t l) i k =
     let e : k .more ≡ copiesIn v = omega (arith, k .count) in
-    record { soon = k .soon; copies = found i (k .mix) ∙ ap (λ (n : ℕ). replicate n f) e; few = k .few; four = k .four }
+    record { soon = k .soon; own = k .own; copies = mix-frames i (k .mix) ∙ ap (λ (n : ℕ). replicate n f) e; few = k .few; four = k .four }
 
 -- ---- a watch that goes on counted every accepted tick; one that is gone met an accepted restart
 abbrev Counts : ℕ → Watch → Type 0
@@ -140,14 +143,14 @@ watch-counts : (R : Rules) (a : Asking) (h : List Call) (l : Link) → Counts (t
 watch-counts R a [] l = refl
 watch-counts R a (c ∷ h) l = done-counts a (c .what) l (perform R l c) (λ z. watch R a z h) (λ z. ticksIn R z h) (watch-counts R a h)
 
-over : (f : List ℕ) (bound n : ℕ) (w : Watch) → Kept f bound w → Counts n w → bound ≤ n → IsOver w
-over f bound n (going t l) k e b = absurd (omega (arith, k .soon))
-over f bound n gone k e b = tt
-over f bound n (ended v t l) k e b = tt
+over : (a : Asking) (f : List ℕ) (bound n : ℕ) (w : Watch) → Kept a f bound w → Counts n w → bound ≤ n → IsOver w
+over a f bound n (going t l) k e b = absurd (omega (arith, k .soon))
+over a f bound n gone k e b = tt
+over a f bound n (ended v t l) k e b = tt
 
-pub watched-over : (R : Rules) (a : Asking) (f : List ℕ) (bound : ℕ) (o : Out) (h : List Call) → Kept f bound (watched R a o h) → bound ≤ ticksIn R (o .link) h → IsOver (watched R a o h)
+pub watched-over : (R : Rules) (a : Asking) (f : List ℕ) (bound : ℕ) (o : Out) (h : List Call) → Kept a f bound (watched R a o h) → bound ≤ ticksIn R (o .link) h → IsOver (watched R a o h)
 watched-over R a f bound o h k b =
-    over f bound (0 + ticksIn R (o .link) h) (watched R a o h) k (onward-counts (verdictOf a o) 0 (ticksIn R (o .link) h) (o .line) (watch R a (o .link) h) (watch-counts R a h (o .link))) (omega arith)
+    over a f bound (0 + ticksIn R (o .link) h) (watched R a o h) k (onward-counts (verdictOf a o) 0 (ticksIn R (o .link) h) (o .line) (watch R a (o .link) h) (watch-counts R a h (o .link))) (omega arith)
 
 onward-there : (s : Says) (t : ℕ) (l : List ℕ) (w : Watch) → NotGone w → NotGone (onward s t l w)
 onward-there none t l (going u m) e = tt

@@ -30,6 +30,20 @@ framesOf (whole f ∷ ps) = f ∷ framesOf ps
 abbrev pub frames : List ℕ → List (List ℕ)
 frames l = framesOf (cut l)
 
+-- the single bytes found
+abbrev pub singlesOf : List Piece → List ℕ
+singlesOf [] = []
+singlesOf (single b ∷ ps) = b ∷ singlesOf ps
+singlesOf (whole f ∷ ps) = singlesOf ps
+
+abbrev pub singles : List ℕ → List ℕ
+singles l = singlesOf (cut l)
+
+-- 06 or 15: what the link answers a frame with, and a restart
+pub data IsAnswer : ℕ → Type 0 where
+  ack : IsAnswer 0x06
+  nak : IsAnswer 0x15
+
 -- the bytes of the pieces, one behind the other
 abbrev pub joined : List Piece → List ℕ
 joined [] = []

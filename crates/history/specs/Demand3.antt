@@ -12,8 +12,9 @@ use Rattle.job.specs.declared.job.Asking.{Asking}
 use Rattle.job.specs.declared.job.Asking.the-variants.{Plain, Asks}
 use Rattle.history.specs.Calls.{send, session, Call, took, perform}
 use Rattle.history.specs.History.{after, ticksIn, restartsIn}
-use Rattle.history.specs.Cut.{frames}
-use Rattle.history.specs.Watch.{Verdict, copiesIn, isFailure, Watch, going, gone, ended, watched, verdictsFrom}
+use Rattle.history.specs.Cut.{frames, singles, IsAnswer}
+use Rattle.history.specs.Ranges.{All}
+use Rattle.history.specs.Watch.{Verdict, copiesIn, isFailure, isOwn, Watch, going, gone, ended, watched, verdictsFrom, abandonsFrom, linesFrom, verdictsBy, abandonsBy}
 
 -- with no verdict yet, after so many accepted ticks and these bytes
 pub record Open (f : List ℕ) (bound ticks : ℕ) (line : List ℕ) : Type 0 where
@@ -25,9 +26,11 @@ pub record Open (f : List ℕ) (bound ticks : ℕ) (line : List ℕ) : Type 0 wh
   pub few : length (frames line) ≤ 4
 
 -- with the verdict v, after so many accepted ticks and these bytes, the call of the verdict included
-pub record Ended (f : List ℕ) (bound : ℕ) (v : Verdict) (ticks : ℕ) (line : List ℕ) : Type 0 where
+pub record Ended (a : Asking) (f : List ℕ) (bound : ℕ) (v : Verdict) (ticks : ℕ) (line : List ℕ) : Type 0 where
   -- the verdict comes by this accepted tick
   pub soon : ticks ≤ bound
+  -- and is one of its own
+  pub own : isOwn a v ≡ true
   -- the frames found are all equal, byte for byte, to the frame that `build` gives, and their number is the one in the verdict
   pub copies : frames line ≡ replicate (copiesIn v) f
   -- at most four
@@ -36,10 +39,16 @@ pub record Ended (f : List ℕ) (bound : ℕ) (v : Verdict) (ticks : ℕ) (line 
   pub four : isFailure v ≡ true → copiesIn v ≡ 4
 
 -- of a watch; nothing is said where an accepted restart came before the verdict
-abbrev pub Kept : List ℕ → ℕ → Watch → Type 0
-Kept f bound (going t l) = Open f bound t l
-Kept f bound gone = Unit {0}
-Kept f bound (ended v t l) = Ended f bound v t l
+abbrev pub Kept : Asking → List ℕ → ℕ → Watch → Type 0
+Kept a f bound (going t l) = Open f bound t l
+Kept a f bound gone = Unit {0}
+Kept a f bound (ended v t l) = Ended a f bound v t l
+
+-- with a verdict, all frames put out until another send or session is accepted are the copies in it
+abbrev pub Spent : List ℕ → List ℕ → Watch → Type 0
+Spent f line (going t l) = Unit {0}
+Spent f line gone = Unit {0}
+Spent f line (ended v t l) = frames line ≡ replicate (copiesIn v) f
 
 -- it has its verdict, or was restarted before it
 abbrev pub IsOver : Watch → Type 0
@@ -56,8 +65,17 @@ NotGone (ended v t l) = Unit {0}
 pub record Demand3 (R : Rules) (a : Asking) (f : List ℕ) (bound : ℕ) (o : Out) (h : List Call) : Type 0 where
   -- at most one verdict until another send or session is accepted
   pub once : verdictsFrom R a o h ≤ 1
+  -- exactly one where the watch ends with it, else none; abandoned is said once where a restart came before the verdict, else never
+  pub said : verdictsFrom R a o h ≡ verdictsBy (watched R a o h)
+  pub abandoned : abandonsFrom R o h ≡ abandonsBy (watched R a o h)
   -- the ticks, the copies and their number
-  pub kept : Kept f bound (watched R a o h)
+  pub kept : Kept a f bound (watched R a o h)
+  -- at most four copies go out until another send or session is accepted, past the verdict too, all equal byte for byte
+  pub few : length (frames (linesFrom R o h)) ≤ 4
+  pub equal : frames (linesFrom R o h) ≡ replicate (length (frames (linesFrom R o h))) f
+  pub spent : Spent f (linesFrom R o h) (watched R a o h)
+  -- and every other byte is an answer
+  pub answers : All IsAnswer (singles (linesFrom R o h))
   -- a history of that many accepted ticks has the verdict, where no accepted restart came before it
   pub comes : bound ≤ ticksIn R (o .link) h → IsOver (watched R a o h)
   -- and only an accepted restart ends the watch without one
@@ -84,3 +102,18 @@ sendBound = 15701
 -- a session: by the 20,700th
 abbrev pub sessionBound : ℕ
 sessionBound = 20700
+
+-- Demand 3 in one sentence, of a send or session that was accepted and had so many ticks, with no restart: it has its verdict, one of its own
+-- and no second; the frames put out until another is accepted are the copies that the verdict says, at most four, and after a failure exactly four.
+pub record HasVerdict (R : Rules) (a : Asking) (f : List ℕ) (bound : ℕ) (o : Out) (h : List Call) : Type 0 where
+  pub verdict : Verdict
+  pub ticks : ℕ
+  pub line : List ℕ
+  pub is : watched R a o h ≡ ended verdict ticks line
+  pub soon : ticks ≤ bound
+  pub own : isOwn a verdict ≡ true
+  pub once : verdictsFrom R a o h ≡ 1
+  pub copies : frames line ≡ replicate (copiesIn verdict) f
+  pub spent : frames (linesFrom R o h) ≡ replicate (copiesIn verdict) f
+  pub few : copiesIn verdict ≤ 4
+  pub four : isFailure verdict ≡ true → copiesIn verdict ≡ 4

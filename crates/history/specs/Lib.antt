@@ -1,8 +1,10 @@
 pub mod Calls
 pub mod History
+pub mod Played
 pub mod Cut
 pub mod Watch
-pub mod Demand3
+pub mod Bound
 pub mod Ranges
+pub mod Demand3
 pub mod Received
 pub mod HandedUp

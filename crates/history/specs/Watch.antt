@@ -36,6 +36,19 @@ isFailure (response n) = false
 isFailure (noResponse n) = false
 isFailure (notSent n) = true
 
+-- a send's verdict is acknowledged or failed, a session's response, no response or not sent
+abbrev pub isOwn : Asking → Verdict → Bool
+isOwn Plain (acknowledged n) = true
+isOwn Plain (failed n) = true
+isOwn Plain (response n) = false
+isOwn Plain (noResponse n) = false
+isOwn Plain (notSent n) = false
+isOwn (Asks c) (acknowledged n) = false
+isOwn (Asks c) (failed n) = false
+isOwn (Asks c) (response n) = true
+isOwn (Asks c) (noResponse n) = true
+isOwn (Asks c) (notSent n) = true
+
 -- what a report says of the open send or session: no verdict, or this one
 pub data Says : Type 0 where
   none : Says
@@ -61,10 +74,24 @@ sessionVerdict (session.NoResponse n) = says (noResponse n)
 sessionVerdict (session.NotSent n) = says (notSent n)
 sessionVerdict session.Abandoned = none
 
--- of an accepted send (Plain) or session (Asks)
+-- the first of two that is a verdict
+abbrev pub orElse : Says → Says → Says
+orElse none x = x
+orElse (says v) x = says v
+
+-- what the sending part says beside this session part: with the ACK of a session it is waiting
+abbrev pub unlessWaiting : Session → Says → Says
+unlessWaiting session.Nothing x = x
+unlessWaiting session.Waiting x = none
+unlessWaiting (session.Response n) x = x
+unlessWaiting (session.NoResponse n) x = x
+unlessWaiting (session.NotSent n) x = x
+unlessWaiting session.Abandoned x = x
+
+-- of an accepted send (Plain) or session (Asks): a verdict is looked for in both parts, whichever it was
 abbrev pub verdictIn : Asking → Sending → Session → Says
-verdictIn Plain s e = sendVerdict s
-verdictIn (Asks c) s e = sessionVerdict e
+verdictIn Plain s e = orElse (sendVerdict s) (sessionVerdict e)
+verdictIn (Asks c) s e = orElse (sessionVerdict e) (unlessWaiting e (sendVerdict s))
 
 abbrev pub verdictOf : Asking → Out → Says
 verdictOf a o = verdictIn a (o .sending) (o .session)
@@ -108,27 +135,84 @@ watch R a l (c ∷ h) = watchDone a (c .what) l (perform R l c) (λ z. watch R a
 abbrev pub watched : Rules → Asking → Out → List Call → Watch
 watched R a o h = onward (verdictOf a o) 0 (o .line) (watch R a (o .link) h)
 
--- how many verdicts are said until another send or session is accepted
+-- ---- all calls until another send or session is accepted: past the verdict too, and past a restart
+-- what the accepted ones gave; os is what those after this one gave
+abbrev pub outsTaken : What → Out → List Out → List Out
+outsTaken (byte b) o os = o ∷ os
+outsTaken (bytes bs) o os = o ∷ os
+outsTaken tick o os = o ∷ os
+outsTaken (send kind command ps) o os = []
+outsTaken (sessionCall command ps) o os = []
+outsTaken restart o os = o ∷ os
+
+abbrev pub outsDone : What → Link → Done → (Link → List Out) → List Out
+outsDone x l (refused r) k = k l
+outsDone x l (took o) k = outsTaken x o (k (o .link))
+
+abbrev pub outs : Rules → Link → List Call → List Out
+outs R l [] = []
+outs R l (c ∷ h) = outsDone (c .what) l (perform R l c) (λ z. outs R z h)
+
+-- from the accepting call on, which gave o
+abbrev pub outsFrom : Rules → Out → List Call → List Out
+outsFrom R o h = o ∷ outs R (o .link) h
+
+-- how many verdicts are said
 abbrev pub count : Says → ℕ
 count none = 0
 count (says v) = 1
 
-abbrev pub countTaken : Asking → What → Out → ℕ → ℕ
-countTaken a (byte b) o n = count (verdictOf a o) + n
-countTaken a (bytes bs) o n = count (verdictOf a o) + n
-countTaken a tick o n = count (verdictOf a o) + n
-countTaken a (send kind command ps) o n = 0
-countTaken a (sessionCall command ps) o n = 0
-countTaken a restart o n = count (verdictOf a o) + n
+abbrev pub verdictsOf : Asking → List Out → ℕ
+verdictsOf a [] = 0
+verdictsOf a (o ∷ os) = count (verdictOf a o) + verdictsOf a os
 
-abbrev pub countDone : Asking → What → Link → Done → (Link → ℕ) → ℕ
-countDone a x l (refused r) k = k l
-countDone a x l (took o) k = countTaken a x o (k (o .link))
-
-abbrev pub verdicts : Rules → Asking → Link → List Call → ℕ
-verdicts R a l [] = 0
-verdicts R a l (c ∷ h) = countDone a (c .what) l (perform R l c) (λ z. verdicts R a z h)
-
--- from the accepting call on
 abbrev pub verdictsFrom : Rules → Asking → Out → List Call → ℕ
-verdictsFrom R a o h = count (verdictOf a o) + verdicts R a (o .link) h
+verdictsFrom R a o h = verdictsOf a (outsFrom R o h)
+
+-- how often abandoned is said, in the sending part or in the session part
+abbrev pub abandonedSending : Sending → ℕ
+abandonedSending sending.Nothing = 0
+abandonedSending sending.Stray = 0
+abandonedSending sending.Due = 0
+abandonedSending (sending.Copy n) = 0
+abandonedSending (sending.BackingOff t) = 0
+abandonedSending (sending.Acknowledged n) = 0
+abandonedSending (sending.Failed n) = 0
+abandonedSending sending.Abandoned = 1
+
+abbrev pub abandonedSession : Session → ℕ
+abandonedSession session.Nothing = 0
+abandonedSession session.Waiting = 0
+abandonedSession (session.Response n) = 0
+abandonedSession (session.NoResponse n) = 0
+abandonedSession (session.NotSent n) = 0
+abandonedSession session.Abandoned = 1
+
+abbrev pub abandonsIn : Sending → Session → ℕ
+abandonsIn s e = abandonedSending s + abandonedSession e
+
+abbrev pub abandonsOf : List Out → ℕ
+abandonsOf [] = 0
+abandonsOf (o ∷ os) = abandonsIn (o .sending) (o .session) + abandonsOf os
+
+abbrev pub abandonsFrom : Rules → Out → List Call → ℕ
+abandonsFrom R o h = abandonsOf (outsFrom R o h)
+
+-- the bytes put out
+abbrev pub linesOf : List Out → List ℕ
+linesOf [] = []
+linesOf (o ∷ os) = o .line ++ linesOf os
+
+abbrev pub linesFrom : Rules → Out → List Call → List ℕ
+linesFrom R o h = linesOf (outsFrom R o h)
+
+-- what a watch comes to: with a verdict it was said once, and with a restart before it abandoned was
+abbrev pub verdictsBy : Watch → ℕ
+verdictsBy (going t l) = 0
+verdictsBy gone = 0
+verdictsBy (ended v t l) = 1
+
+abbrev pub abandonsBy : Watch → ℕ
+abandonsBy (going t l) = 0
+abandonsBy gone = 1
+abandonsBy (ended v t l) = 0

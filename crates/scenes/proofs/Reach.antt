@@ -39,6 +39,7 @@ use Rattle.history.specs.Calls.{byte, tick, send, session as sessionCall, Call}
 use Rattle.history.specs.History.{after}
 use Rattle.history.specs.Watch.{Verdict, failed, noResponse, Says, none, says, sendVerdict, verdictIn, verdictOf, Watch, going, gone, ended, add, onward, watch}
 use Rattle.history.specs.Demand3.{Kept, EverySend, EverySession, sendBound, sessionBound}
+use Rattle.history.proofs.Job as jobs
 use Rattle.scenes.specs.Scene.{lent, silence}
 use Rattle.scenes.specs.Longest.{frameBegins, before, round, toFourth, longestSend, longestSession, Reaches}
 
@@ -53,8 +54,7 @@ add-add t u l m gone = refl
 add-add t u l m (ended x v n) = ap₂ (ended x) (sym (add-assoc t u v)) (sym (append-assoc l m n))
 
 no-verdict : (a : Asking) (s : Sending) → sendVerdict s ≡ none → verdictIn a s session.Nothing ≡ none
-no-verdict Plain s e = e
-no-verdict (Asks c) s e = refl
+no-verdict a s e = jobs.no-verdict a s session.Nothing e refl
 
 module _ (R : Rules) (a : Asking) (f : List ℕ) where
   -- a link that holds the frame f
@@ -305,9 +305,9 @@ every-session-reaches command ps n = session-reaches base base-backs command ps 
 pub send-bound-least : (b : ℕ) → EverySend base (λ size. b) → sendBound ≤ b
 send-bound-least b d =
     let r = every-send-reaches 0 7 [] (omega arith) (omega arith) in
-    (subst (Kept (frameOf 0 7 []) b) (r .verdict) ((d before (longestSend base 5) 258 254 0 7 [] (r .gave) (r .accepted)) .kept)) .soon
+    (subst (Kept Plain (frameOf 0 7 []) b) (r .verdict) ((d before (longestSend base 5) 258 254 0 7 [] (r .gave) (r .accepted)) .kept)) .soon
 
 pub session-bound-least : (b : ℕ) → EverySession base (λ size. b) → sessionBound ≤ b
 session-bound-least b d =
     let r = every-session-reaches 7 [] (omega arith) in
-    (subst (Kept (frameOf 0 7 []) b) (r .verdict) ((d before (longestSession base 5) 258 254 7 [] (r .gave) (r .accepted)) .kept)) .soon
+    (subst (Kept (Asks 7) (frameOf 0 7 []) b) (r .verdict) ((d before (longestSession base 5) 258 254 7 [] (r .gave) (r .accepted)) .kept)) .soon

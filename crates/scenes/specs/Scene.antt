@@ -1,12 +1,15 @@
 -- A scene: calls on a fresh link, each lent what it needs, and what is seen of them, with the ticks.
 -- Assumes nothing.
 use Prim.Native.Nat.{ℕ, zero, suc, _+_}
+use mathlib.Core.Bool.{Bool, true, false}
 use mathlib.Core.List.{List, [], _∷_}
+use lib.Dec.{eqb}
+use lib.ListN.{length}
 use Rattle.frame.specs.Pick.{pick}
 use Rattle.frame.specs.declared.refusal.Refusal.{Refusal}
 use Rattle.job.specs.Rules.{Rules}
 use Rattle.link.specs.State.{freshLink}
-use Rattle.link.specs.Step.{news}
+use Rattle.link.specs.Step.{Out, news}
 use Rattle.report.specs.declared.report.Reception.{Reception}
 use Rattle.job.specs.declared.report.Reset.{Reset}
 use Rattle.job.specs.declared.report.Sending.{Sending}
@@ -29,10 +32,13 @@ pub data Seen : Type 0 where
   said : (ticks : ℕ) → Reception → Sending → Session → Reset → (line : List ℕ) → Seen
   refusal : (ticks : ℕ) → Refusal → Seen
 
--- A report of "nothing" or "skipped" is passed over.
+-- A call is shown if its report is more than "nothing" or "skipped", and if it put out bytes.
+abbrev pub shows : Out → Bool
+shows o = pick (news o) true (pick (eqb (length (o .line)) 0) false true)
+
 abbrev pub seenDone : ℕ → Done → List Seen → List Seen
 seenDone t (refused k) rest = refusal t k ∷ rest
-seenDone t (took o) rest = pick (news o) (said t (o .reception) (o .sending) (o .session) (o .reset) (o .line) ∷ rest) rest
+seenDone t (took o) rest = pick (shows o) (said t (o .reception) (o .sending) (o .session) (o .reset) (o .line) ∷ rest) rest
 
 -- over these calls, from a link, with so many ticks before
 abbrev pub seenFrom : Rules → Link → ℕ → List Call → List Seen
