@@ -1,3 +1,4 @@
+pub mod Shown
 pub mod Starred
 pub mod Computed
 pub mod Reach
