@@ -44,7 +44,7 @@ use Rattle.history.proofs.Mix.{Mix, end as finish, one, copy, mix-appen
 use Rattle.history.proofs.Reception.{pick-by, pick-ok, InTime, Steps, ticksAt, byte-steps, tick-steps}
 use Rattle.history.proofs.Job.{Good, left, ones, Claim, no-verdict, act-ok}
 
--- ---- a byte whose report is no more than "nothing" or "skipped" changes the job in nothing and puts nothing out
+-- ---- a byte whose report is no more than "nothing" or "skipped" changes the job in nothing, puts nothing out and hands nothing up
 single-news : (R : Rules) (s : Single) (j : Job) → newsSending ((onSingle R s j) .sending) ≡ true
 single-news R s Idle = refl
 single-news R s (Due a n) = refl
@@ -67,11 +67,12 @@ end-news (end.Response size command) j = pick-ok (λ (x : Reception). newsRecept
 pub record Calm (R : Rules) (size : ℕ) (e : Event) (j : Job) : Type 0 where
   pub job : act R size e j ≡ still j
   pub silent : (saidOn e j) .reply ≡ reply.Silent
+  pub none-up : (saidOn e j) .up ≡ 0
 
 calm : (R : Rules) (size : ℕ) (e : Event) (j : Job) → ticksAt e ≡ 0 → newsReception ((saidOn e j) .reception) ≡ false → newsSending ((act R size e j) .sending) ≡ false → Calm R size e j
-calm R size Inside j t p q = record { job = refl; silent = refl }
-calm R size (Kept at) j t p q = record { job = refl; silent = refl }
-calm R size Skipped j t p q = record { job = refl; silent = refl }
+calm R size Inside j t p q = record { job = refl; silent = refl; none-up = refl }
+calm R size (Kept at) j t p q = record { job = refl; silent = refl; none-up = refl }
+calm R size Skipped j t p q = record { job = refl; silent = refl; none-up = refl }
 calm R size (Alone s) j t p q = absurd (false≢true (sym q ∙ single-news R s j))
 calm R size (Ended e) j t p q = absurd (false≢true (sym p ∙ end-news e j))
 calm R size TickHunting j t p q = absurd (omega arith)
@@ -86,6 +87,10 @@ pub calm-byte : (R : Rules) (l : Link) (b : ℕ) (r : Heard) → ticksAt (r .eve
 calm-byte R l b r t e =
     let p = neither _ _ e in
     calm R (l .core .size) (r .event) (l .core .job) t (p .0) ((neither _ _ (p .1)) .0)
+
+pub calm-line : (R : Rules) (size : ℕ) (e : Event) (j : Job) (held : List ℕ) → Calm R size e j → replyBytes ((saidOn e j) .reply) ++ pick ((act R size e j) .copy) held [] ≡ []
+calm-line R size e j held m =
+    ap (λ (y : Reply). replyBytes y ++ pick ((act R size e j) .copy) held []) (m .silent) ∙ ap (λ (y : Act). pick (y .copy) held []) (m .job)
 
 -- ---- a link with an open send or session of the frame f
 pub record Sends (R : Rules) (f : List ℕ) (a : Asking) (l : Link) : Type 0 where
@@ -212,7 +217,7 @@ module _ (R : Rules) (g : ℕ → ℕ) (fit : Fits R g) (f : List ℕ) (a : Aski
         sends = c .sends;
         less = omega (arith, c .less);
         copies = ap (λ (y : Act). copiesOf (y .job)) (m .job) ∙ e;
-        line = ap (λ (y : Reply). replyBytes y ++ pick (x .copy) (take (l .core .size) (l .frame)) []) (m .silent) ∙ ap (λ (y : Act). pick (y .copy) (take (l .core .size) (l .frame)) []) (m .job);
+        line = calm-line R (l .core .size) (r .event) (l .core .job) (take (l .core .size) (l .frame)) m;
         verdict = v;
       }
 

@@ -105,6 +105,16 @@ byte-steps b (Body p) k =
     pick-ok (Steps 0 (Body p)) (ltb (p .at) (p .size)) _ _ (record { ok = k; tells = record { on = λ i. i; down = λ i. omega arith }; time = refl })
     (record { ok = tt; tells = tt; time = refl })
 
+-- a byte is no tick, whatever the clock stands at
+abbrev NoTick : Heard → Type 0
+NoTick r = ticksAt (r .event) ≡ 0
+
+pub no-tick : (b : ℕ) (h : Hearing) → ticksAt ((heardByte b h) .event) ≡ 0
+no-tick b Hunting =
+    pick-ok NoTick (eqb b 1) _ _ refl (pick-ok NoTick (eqb b 6) _ _ refl (pick-ok NoTick (eqb b 21) _ _ refl (pick-ok NoTick (eqb b 24) _ _ refl refl)))
+no-tick b (Head c) = pick-ok NoTick (ltb b 3) _ _ refl refl
+no-tick b (Body p) = pick-ok NoTick (ltb (p .at) (p .size)) _ _ refl refl
+
 -- a clock that passes or aborts
 clocked-steps : (h h′ : Hearing) (c : ℕ) → (c + 1 < 1501 → InTime h′ × Within h′) → room h′ ≡ 1501 - (c + 1) → room h ≡ 1501 - c → c ≤ 1500
     → Steps 1 h (clocked (c + 1) h′)

@@ -3,20 +3,45 @@
 use Prim.Native.Nat.{ℕ, suc, _+_}
 use mathlib.Core.Path.{_≡_, refl, ap, sym, _∙_}
 use mathlib.Core.Bool.{false, false≢true}
-use mathlib.Core.List.{List, [], _∷_, _++_, append-assoc}
+use mathlib.Core.List.{List, [], _∷_, _++_, append-nil, append-assoc}
 use native.Mathlib.Omega.{arith}
 use lib.ListN.{length, take, length-append}
 use lib.Seq.{take-at}
 use Rattle.job.specs.Rules.{Rules}
+use Rattle.reception.specs.Hearing.{heardByte, keep}
 use Rattle.link.specs.Step.{Out, Taken, byteOut, news, quiet, runFrom, runOut}
+use Rattle.job.specs.declared.job.Act.{Act}
 use Rattle.link.specs.declared.state.Link.{Link}
-use Rattle.history.specs.Received.{feed}
-use Rattle.history.proofs.Reception.{pick-by}
+use Rattle.history.specs.Received.{feed, fedLine, fedUp}
+use Rattle.history.proofs.Reception.{pick-by, no-tick}
+use Rattle.history.proofs.Links.{calm-byte, calm-line}
 
--- the reports of these bytes, given one by one, are no more than "nothing" or "skipped"
+-- a byte's report is no more than "nothing" or "skipped": it put out nothing and handed up nothing, and left the sender as it was
+pub record QuietByte (l : Link) (o : Out) : Type 0 where
+  pub report : news o ≡ false
+  pub line : o .line ≡ []
+  pub up : o .up ≡ []
+  pub job : o .link .core .job ≡ l .core .job
+  pub held : take (o .link .core .size) (o .link .frame) ≡ take (l .core .size) (l .frame)
+
+-- so are all of these bytes, given one by one
 abbrev pub QuietAll : Rules → Link → List ℕ → Type 0
 QuietAll R l [] = Unit {0}
-QuietAll R l (b ∷ bs) = (news (byteOut R l b) ≡ false) × QuietAll R ((byteOut R l b) .link) bs
+QuietAll R l (b ∷ bs) = QuietByte l (byteOut R l b) × QuietAll R ((byteOut R l b) .link) bs
+
+-- on any link
+pub quiet-by-report : (R : Rules) (l : Link) (b : ℕ) → news (byteOut R l b) ≡ false → QuietByte l (byteOut R l b)
+unfolding byteOut
+quiet-by-report R l b e =
+    let r = heardByte b (l .core .hearing) in
+    let m = calm-byte R l b r (no-tick b (l .core .hearing)) e in
+    record {
+      report = e;
+      line = calm-line R (l .core .size) (r .event) (l .core .job) (take (l .core .size) (l .frame)) m;
+      up = ap (λ (n : ℕ). take n (keep (r .event) b (l .body))) (m .none-up);
+      job = ap (λ (x : Act). x .job) (m .job);
+      held = refl;
+    }
 
 -- "A run of bytes stops behind the first byte whose report is more than "nothing" or "skipped" and says how many were taken; its report is that of the last byte taken."
 pub record Until (R : Rules) (l : Link) (n : ℕ) (bs : List ℕ) (t : Taken) : Type 0 where
@@ -46,7 +71,7 @@ until R (c ∷ bs) b n o =
       last = u .last;
       behind = u .behind;
       parts = ap (λ (x : List ℕ). b ∷ x) (u .parts);
-      quiet = (e, u .quiet);
+      quiet = (quiet-by-report R (o .link) b e, u .quiet);
       stops = u .stops;
       taken = u .taken ∙ (omega arith);
       out = u .out;
@@ -78,3 +103,43 @@ run-feeds R l (b ∷ bs) =
     let t = runOut R l (b ∷ bs) in
     let u = run-bytes R l b bs in
     ap (λ (o : Out). o .link) (u .out) ∙ sym (feed-append R (u .before) (u .last ∷ []) l) ∙ ap (feed R l) (sym (taken-is R l (b ∷ bs) t u))
+
+-- what the bytes before the last put out and hand up is nothing
+quiet-line : (R : Rules) (bs cs : List ℕ) (l : Link) → QuietAll R l bs → fedLine R l (bs ++ cs) ≡ fedLine R (feed R l bs) cs
+quiet-line R [] cs l q = refl
+quiet-line R (b ∷ bs) cs l q =
+    let z = (byteOut R l b) .link in
+    ap (λ (x : List ℕ). x ++ fedLine R z (bs ++ cs)) (q .0 .line) ∙ quiet-line R bs cs z (q .1)
+
+quiet-up : (R : Rules) (bs cs : List ℕ) (l : Link) → QuietAll R l bs → fedUp R l (bs ++ cs) ≡ fedUp R (feed R l bs) cs
+quiet-up R [] cs l q = refl
+quiet-up R (b ∷ bs) cs l q =
+    let z = (byteOut R l b) .link in
+    ap (λ (x : List ℕ). x ++ fedUp R z (bs ++ cs)) (q .0 .up) ∙ quiet-up R bs cs z (q .1)
+
+-- "It equals the same bytes given one by one": the bytes that it puts out
+pub run-lines : (R : Rules) (l : Link) (bs : List ℕ) → (runOut R l bs) .out .line ≡ fedLine R l (take ((runOut R l bs) .taken) bs)
+run-lines R l [] = ap (λ (t : Taken). t .out .line) (run-empty R l) ∙ ap (λ (t : Taken). fedLine R l (take (t .taken) [])) (sym (run-empty R l))
+run-lines R l (b ∷ bs) =
+    let u = run-bytes R l b bs in
+    ap (λ (o : Out). o .line) (u .out) ∙ sym (append-nil _) ∙ sym (quiet-line R (u .before) (u .last ∷ []) l (u .quiet))
+    ∙ ap (fedLine R l) (sym (taken-is R l (b ∷ bs) (runOut R l (b ∷ bs)) u))
+
+-- and those that it hands up
+pub run-ups : (R : Rules) (l : Link) (bs : List ℕ) → (runOut R l bs) .out .up ≡ fedUp R l (take ((runOut R l bs) .taken) bs)
+run-ups R l [] = ap (λ (t : Taken). t .out .up) (run-empty R l) ∙ ap (λ (t : Taken). fedUp R l (take (t .taken) [])) (sym (run-empty R l))
+run-ups R l (b ∷ bs) =
+    let u = run-bytes R l b bs in
+    ap (λ (o : Out). o .up) (u .out) ∙ sym (append-nil _) ∙ sym (quiet-up R (u .before) (u .last ∷ []) l (u .quiet))
+    ∙ ap (fedUp R l) (sym (taken-is R l (b ∷ bs) (runOut R l (b ∷ bs)) u))
+
+-- the sender behind quiet bytes is the one before them
+pub record SameSender (l l′ : Link) : Type 0 where
+  pub job : l′ .core .job ≡ l .core .job
+  pub held : take (l′ .core .size) (l′ .frame) ≡ take (l .core .size) (l .frame)
+
+pub quiet-sender : (R : Rules) (bs : List ℕ) (l : Link) → QuietAll R l bs → SameSender l (feed R l bs)
+quiet-sender R [] l q = record { job = refl; held = refl }
+quiet-sender R (b ∷ bs) l q =
+    let s = quiet-sender R bs ((byteOut R l b) .link) (q .1) in
+    record { job = s .job ∙ q .0 .job; held = s .held ∙ q .0 .held }

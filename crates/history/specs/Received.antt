@@ -14,6 +14,15 @@ abbrev pub feed : Rules → Link → List ℕ → Link
 feed R l [] = l
 feed R l (b ∷ bs) = feed R ((byteOut R l b) .link) bs
 
+-- the bytes that these bytes put out, given one by one, and those that they hand up
+abbrev pub fedLine : Rules → Link → List ℕ → List ℕ
+fedLine R l [] = []
+fedLine R l (b ∷ bs) = (byteOut R l b) .line ++ fedLine R ((byteOut R l b) .link) bs
+
+abbrev pub fedUp : Rules → Link → List ℕ → List ℕ
+fedUp R l [] = []
+fedUp R l (b ∷ bs) = (byteOut R l b) .up ++ fedUp R ((byteOut R l b) .link) bs
+
 -- the bytes that an accepted call takes: a run takes as many as it says
 abbrev pub takenBy : Rules → Link → What → List ℕ
 takenBy R l (byte b) = b ∷ []
