@@ -67,6 +67,7 @@ pub record GoesOn (l : Link) (o : Out) : Type 0 where
   pub reception : o .reception ≡ reception.Nothing
   pub reset : o .reset ≡ reset.Nothing
   pub line : o .line ≡ []
+  pub up : o .up ≡ []
 
 -- the sender says nothing, or puts out the copy that was due
 abbrev pub NothingOrCopy : Sending → Type 0
@@ -84,6 +85,8 @@ pub record EndsAs (l : Link) (o : Out) (e : End) : Type 0 where
   pub hunting : o .link .core .hearing ≡ Hunting
   pub sending : NothingOrCopy (o .sending)
   pub reception : o .reception ≡ (saidEnd e (l .core .job)) .reception
+  -- a send that waits for its ACK waits on, whatever the byte is: a Checksum of 06, too
+  pub waits : (a : Asking) (n t : ℕ) → l .core .job ≡ Waiting a n t → o .link .core .job ≡ Waiting a n t
 
 pub data InFrame (l : Link) (o : Out) : Type 0 where
   on : GoesOn l o → InFrame l o
@@ -103,14 +106,24 @@ end-says end.Reserved j = release-says j
 end-says (end.Request size) j = release-says j
 end-says (end.Response size command) j = pick-ok (λ (x : Act). NothingOrCopy (x .sending)) (awaits command j) _ _ tt (release-says j)
 
+end-waits : (e : End) (j : Job) (a : Asking) (n t : ℕ) → j ≡ Waiting a n t → (onEnd e j) .job ≡ Waiting a n t
+end-waits end.BadLength j a n t q = ap (λ (x : Job). (release x) .job) q
+end-waits end.BadSum j a n t q = ap (λ (x : Job). (release x) .job) q
+end-waits end.Reserved j a n t q = ap (λ (x : Job). (release x) .job) q
+end-waits (end.Request size) j a n t q = ap (λ (x : Job). (release x) .job) q
+end-waits (end.Response size command) j a n t q = ap (λ (x : Job). (onEnd (end.Response size command) x) .job) q
+
+ends-as : (R : Rules) (l : Link) (b : ℕ) (e : End) → EndsAs l (byteBy R l b (heard Hunting (Ended e))) e
+ends-as R l b e = record { hunting = refl; sending = end-says e (l .core .job); reception = refl; waits = end-waits e (l .core .job) }
+
 in-frame : (R : Rules) (l : Link) (b : ℕ) (r : Heard) → InsideByte (l .core .hearing) r → InFrame l (byteBy R l b r)
 in-frame R l b r (atLength i c) =
-    on (record { inside = i; clock = c; job = refl; sending = refl; session = refl; reception = refl; reset = refl; line = refl })
+    on (record { inside = i; clock = c; job = refl; sending = refl; session = refl; reception = refl; reset = refl; line = refl; up = refl })
 in-frame R l b r (atBody at i c) =
-    on (record { inside = i; clock = c; job = refl; sending = refl; session = refl; reception = refl; reset = refl; line = refl })
-in-frame R l b r (ends e) = ends e (record { hunting = refl; sending = end-says e (l .core .job); reception = refl })
+    on (record { inside = i; clock = c; job = refl; sending = refl; session = refl; reception = refl; reset = refl; line = refl; up = refl })
+in-frame R l b r (ends e) = ends e (ends-as R l b e)
 
--- "Taking 06 inside a body as the awaited ACK." Inside a frame no byte is taken by the sender: it leaves the job as it was and says nothing, or ends the frame, and then at most a due copy goes out.
+-- "Taking 06 inside a body as the awaited ACK." Inside a frame no byte is taken by the sender: it leaves the job as it was and says nothing, or ends the frame, and then at most a due copy goes out, and a send that waits for its ACK waits on.
 pub inside-frame : (R : Rules) (l : Link) (b : ℕ) → IsInside (l .core .hearing) → InFrame l (byteOut R l b)
 unfolding byteOut
 inside-frame R l b i = in-frame R l b (heardByte b (l .core .hearing)) (inside-byte b (l .core .hearing) i)
@@ -167,7 +180,7 @@ goes-out R l body answer a n r s x =
       job = ap (λ (y : Act). y .job) x;
     }
 
-end-reply : (e : End) (j : Job) → replyBytes ((saidEnd e j) .reply) ≡ answerTo e
+pub end-reply : (e : End) (j : Job) → replyBytes ((saidEnd e j) .reply) ≡ answerTo e
 end-reply end.BadLength j = refl
 end-reply end.BadSum j = refl
 end-reply end.Reserved j = refl
@@ -188,11 +201,11 @@ pub data DueByte (a : Asking) (n : ℕ) (l : Link) (o : Out) : Type 0 where
 
 due-in-frame : (R : Rules) (l : Link) (b : ℕ) (a : Asking) (n : ℕ) (r : Heard) → l .core .job ≡ Due a n → InsideByte (l .core .hearing) r → DueByte a n l (byteBy R l b r)
 due-in-frame R l b a n r q (atLength i c) =
-    stays (record { inside = i; clock = c; job = refl; sending = refl; session = refl; reception = refl; reset = refl; line = refl })
+    stays (record { inside = i; clock = c; job = refl; sending = refl; session = refl; reception = refl; reset = refl; line = refl; up = refl })
 due-in-frame R l b a n r q (atBody at i c) =
-    stays (record { inside = i; clock = c; job = refl; sending = refl; session = refl; reception = refl; reset = refl; line = refl })
+    stays (record { inside = i; clock = c; job = refl; sending = refl; session = refl; reception = refl; reset = refl; line = refl; up = refl })
 due-in-frame R l b a n r q (ends e) =
-    leaves e (record { hunting = refl; sending = end-says e (l .core .job); reception = refl }) (goes-out R l (l .body) (answerTo e) a n (heard Hunting (Ended e)) (end-reply e (l .core .job)) (ap (onEnd e) q ∙ end-puts e a n))
+    leaves e (ends-as R l b e) (goes-out R l (l .body) (answerTo e) a n (heard Hunting (Ended e)) (end-reply e (l .core .job)) (ap (onEnd e) q ∙ end-puts e a n))
 
 pub due-byte : (R : Rules) (l : Link) (b : ℕ) (a : Asking) (n : ℕ) → l .core .job ≡ Due a n → IsInside (l .core .hearing) → DueByte a n l (byteOut R l b)
 unfolding byteOut
