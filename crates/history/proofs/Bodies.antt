@@ -1,13 +1,14 @@
 -- A frame under reception in numbers, and the bytes that it stands for.
 -- Assumes nothing.
-use Prim.Native.Nat.{ℕ, suc, _-_}
-use mathlib.Core.Path.{_≡_, refl, ap, sym}
+use Prim.Native.Nat.{ℕ, suc, _-_, _<_}
+use mathlib.Core.Path.{_≡_, refl, ap, ap₂, sym, _∙_}
 use mathlib.Core.Bool.{Bool}
 use mathlib.Core.List.{List, [], _∷_, _++_}
 use native.Mathlib.Omega.{arith}
 use lib.Bits.{bitXor}
 use lib.Dec.{eqb}
-use lib.ListN.{length, getD, length-append}
+use lib.ListN.{length, take, set, getD, length-append}
+use lib.Seq.{take-suc-set}
 use borrow.Author.Tests.{ne-eqb}
 use Rattle.frame.specs.Pick.{pick}
 use Rattle.frame.specs.Bytes.{xorAll}
@@ -44,3 +45,9 @@ same clock size at at′ sum sum′ kind kind′ command command′ p q r s = λ
 pub more-is : (clock len : ℕ) (bs : List ℕ) (b : ℕ) → more (partialOf clock len bs) b ≡ partialOf clock len (bs ++ (b ∷ []))
 more-is clock len bs b =
     same clock (len - 1) _ _ _ _ _ _ _ _ (sym (length-append bs (b ∷ []))) (sum-is 255 (len ∷ bs) b) (first-is bs b) (second-is bs b)
+
+-- one more byte in the body array
+pub kept-more : (d bs : List ℕ) (at b : ℕ) → at ≡ length bs → length bs < length d → take (length bs) d ≡ bs → take (length (bs ++ (b ∷ []))) (set d at b) ≡ bs ++ (b ∷ [])
+kept-more d bs at b q k e =
+    let n : length (bs ++ (b ∷ [])) ≡ suc (length bs) = omega (arith, length-append bs (b ∷ [])) in
+    ap₂ (λ (i : ℕ) (j : ℕ). take i (set d j b)) n q ∙ take-suc-set d (length bs) b k ∙ ap (λ (z : List ℕ). z ++ (b ∷ [])) e

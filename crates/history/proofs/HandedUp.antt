@@ -1,12 +1,11 @@
 -- In any history, what a byte hands up is the body of a frame that the frame reader accepts, and whose bytes are the last received.
 -- Assumes nothing.
 use Prim.Native.Nat.{ℕ, zero, suc, _+_, _-_, _≤_, _<_}
-use mathlib.Core.Path.{_≡_, refl, ap, ap₂, sym, _∙_, subst}
+use mathlib.Core.Path.{_≡_, refl, ap, sym, _∙_, subst}
 use mathlib.Core.List.{List, [], _∷_, _++_, append-nil, append-assoc}
 use native.Mathlib.Omega.{arith}
 use lib.Dec.{ltb, eqb}
-use lib.ListN.{length, take, set, length-append}
-use lib.Seq.{take-suc-set}
+use lib.ListN.{length, take, length-append}
 use borrow.Author.Tests.{ltb-true, ltb-false, eqb-true}
 use Rattle.frame.specs.Bytes.{xorAll}
 use Rattle.frame.specs.Frame.{frameOf}
@@ -33,7 +32,7 @@ use Rattle.history.specs.Received.{feed, takenBy, ifTaken, received}
 use Rattle.history.specs.HandedUp.{FrameUp, HandedUp, nothing, frame}
 use Rattle.history.proofs.Reception.{pick-by, pick-ok}
 use Rattle.history.proofs.Ranges.{keep-length}
-use Rattle.history.proofs.Bodies.{partialOf, begun-is, more-is}
+use Rattle.history.proofs.Bodies.{partialOf, begun-is, more-is, kept-more}
 use Rattle.history.proofs.Runs.{run-empty, run-bytes, taken-is, run-feeds}
 
 -- ---- the frame under reception is made of the last bytes received; d is the link's body array
@@ -69,11 +68,6 @@ hunted-hears xs d b =
 
 came-more : (xs before ys : List ℕ) (b : ℕ) → xs ≡ before ++ ys → xs ++ (b ∷ []) ≡ before ++ (ys ++ (b ∷ []))
 came-more xs before ys b e = ap (λ (z : List ℕ). z ++ (b ∷ [])) e ∙ append-assoc before ys (b ∷ [])
-
-kept-more : (d bs : List ℕ) (at b : ℕ) → at ≡ length bs → length bs < length d → take (length bs) d ≡ bs → take (length (bs ++ (b ∷ []))) (set d at b) ≡ bs ++ (b ∷ [])
-kept-more d bs at b q k e =
-    let n : length (bs ++ (b ∷ [])) ≡ suc (length bs) = omega (arith, length-append bs (b ∷ [])) in
-    ap₂ (λ (i : ℕ) (j : ℕ). take i (set d j b)) n q ∙ take-suc-set d (length bs) b k ∙ ap (λ (z : List ℕ). z ++ (b ∷ [])) e
 
 byte-hears : (xs d : List ℕ) (b : ℕ) (h : Hearing) → IsByte b → length d ≡ 254 → Hears xs d h → HearsIt xs d b (heardByte b h)
 byte-hears xs d b Hunting x r t = hunted-hears xs d b

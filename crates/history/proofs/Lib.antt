@@ -13,4 +13,5 @@ pub mod Bodies
 pub mod Runs
 pub mod Receives
 pub mod HandedUp
+pub mod AsRead
 pub mod Promise

@@ -156,6 +156,10 @@ sizes-keeps R =
       fresh = record { size = omega arith; body = refl; frame = refl };
     }
 
+-- after any history whatever
+pub body-254 : (R : Rules) (h : List Call) → length ((after R h) .body) ≡ 254
+body-254 R h = (after-keeps R Any Sizes (sizes-keeps R) h (any-calls h)) .body
+
 -- ---- the job: idle, or open and good
 data Fine (R : Rules) (size : ℕ) (h : Hearing) (j : Job) : Type 0 where
   idle : j ≡ Idle → Fine R size h j

@@ -8,3 +8,4 @@ pub mod Ranges
 pub mod Demand3
 pub mod Received
 pub mod HandedUp
+pub mod Whole

@@ -1,0 +1,93 @@
+-- A frame that comes whole, in whatever calls: how its reception ends, by what the frame reader says of the same bytes.
+-- Assumes nothing.
+use Prim.Native.Nat.{ℕ, _≤_, _<_}
+use mathlib.Core.Path.{_≡_}
+use mathlib.Core.List.{List, [], _∷_, _++_}
+use lib.Dec.{eqb}
+use lib.ListN.{length, take}
+use Rattle.frame.specs.Pick.{pick}
+use Rattle.frame.specs.declared.refusal.Refusal.the-variants as refusal
+use Rattle.reading.specs.Reader.{parametersOf}
+use Rattle.reading.specs.declared.reader.Reading.{Reading}
+use Rattle.reading.specs.declared.reader.Reading.the-variants.{Refused, Parts}
+use Rattle.job.specs.Rules.{Rules}
+use Rattle.sending.specs.Events.{awaits}
+use Rattle.link.specs.Step.{Out}
+use Rattle.reception.specs.declared.hearing.Hearing.the-variants.{Hunting}
+use Rattle.job.specs.declared.job.Job.{Job}
+use Rattle.job.specs.declared.job.Job.the-variants.{Idle, Due, Waiting, BackingOff, Awaiting}
+use Rattle.report.specs.declared.report.Reception.{Reception}
+use Rattle.report.specs.declared.report.Reception.the-variants as reception
+use Rattle.link.specs.declared.state.Link.{Link}
+use Rattle.history.specs.Calls.{Call, perform}
+use Rattle.history.specs.History.{next, run, ticksIn, restartsIn}
+use Rattle.history.specs.Received.{takenBy, ifTaken, received}
+
+-- ---- the bytes
+-- 01 and a Length below 3; or 01, Length, and then "Length − 1 body bytes, then Checksum".
+pub data Whole (xs : List ℕ) : Type 0 where
+  short : (len : ℕ) → xs ≡ 1 ∷ len ∷ [] → len < 3 → Whole xs
+  full : (len : ℕ) (rest : List ℕ) → xs ≡ 1 ∷ len ∷ rest → 3 ≤ len → len ≤ 255 → length rest ≡ len → Whole xs
+
+-- ---- the calls that take them
+abbrev pub fromFirst : List ℕ → ℕ → ℕ → ℕ
+fromFirst [] behind later = later
+fromFirst (b ∷ bs) behind later = behind
+
+-- the accepted ticks behind the call that takes the first byte of all, which the clock of its frame counts
+abbrev pub clockIn : Rules → Link → List Call → ℕ
+clockIn R l [] = 0
+clockIn R l (c ∷ h) =
+    fromFirst (ifTaken (perform R l c) (takenBy R l (c .what)))
+    (ticksIn R (next l (perform R l c)) h)
+    (clockIn R (next l (perform R l c)) h)
+
+-- These bytes come whole to the link l by the calls k and the call c: whatever else is called between them, and refused or not.
+pub record ComesWhole (R : Rules) (l : Link) (k : List Call) (c : Call) (xs : List ℕ) : Type 0 where
+  pub whole : Whole xs
+  pub bytes : received R l k ++ takenBy R (run R l k) (c .what) ≡ xs
+  -- the last of them in the call c
+  pub last : 0 < length (takenBy R (run R l k) (c .what))
+  pub restarts : restartsIn R l k ≡ 0
+  -- "A frame whose last byte comes after 1,500 ticks counts; the 1,501st tick aborts."
+  pub ticks : clockIn R l k ≤ 1500
+
+-- ---- the end of the reception
+-- "The call that ends a reception (any end in section 4) puts out a due copy after the 06 or 15, if there is one."
+abbrev pub dueCopy : Job → List ℕ → List ℕ
+dueCopy Idle held = []
+dueCopy (Due a n) held = held
+dueCopy (Waiting a n e) held = []
+dueCopy (BackingOff a n b) held = []
+dueCopy (Awaiting c n e) held = []
+
+-- with the job j and the held frame before it: what is reported, the answer on the line, and what is handed up
+pub record Ending (j : Job) (held : List ℕ) (r : Reception) (answer handed : List ℕ) (o : Out) : Type 0 where
+  pub hunting : o .link .core .hearing ≡ Hunting
+  pub reception : o .reception ≡ r
+  pub line : o .line ≡ answer ++ dueCopy j held
+  pub up : o .up ≡ handed
+
+-- "A frame handed up is reported as the frame end, or as stray response in its place": a RES that is not awaited.
+abbrev pub frameReport : ℕ → ℕ → Job → Reception
+frameReport kind command j = pick (eqb kind 0) reception.Frame (pick (awaits command j) reception.Frame reception.StrayResponse)
+
+-- The reader's answer to the bytes xs decides. LENGTH: "report bad length, hunt again. No byte is put out." SUM: "put out 15, report bad sum."
+-- KIND: "put out 06, hand up nothing, report reserved." Parts: "put out 06 and hand up the body". It has no other answer to bytes that come whole.
+abbrev pub EndsBy : Job → List ℕ → List ℕ → Reading → Out → Type 0
+EndsBy j held xs (Refused refusal.Room) o = ⊥
+EndsBy j held xs (Refused refusal.Busy) o = ⊥
+EndsBy j held xs (Refused refusal.Kind) o = Ending j held reception.Reserved (6 ∷ []) [] o
+EndsBy j held xs (Refused refusal.Long) o = ⊥
+EndsBy j held xs (Refused refusal.Short) o = ⊥
+EndsBy j held xs (Refused refusal.Start) o = ⊥
+EndsBy j held xs (Refused refusal.Length) o = Ending j held reception.BadLength [] [] o
+EndsBy j held xs (Refused refusal.Tail) o = ⊥
+EndsBy j held xs (Refused refusal.Sum) o = Ending j held reception.BadSum (21 ∷ []) [] o
+EndsBy j held xs (Refused refusal.Form) o = ⊥
+EndsBy j held xs (Refused refusal.Range) o = ⊥
+EndsBy j held xs (Parts kind command n) o = Ending j held (frameReport kind command j) (6 ∷ []) (kind ∷ command ∷ parametersOf xs n) o
+
+-- of a call on the link l that takes the last of the bytes xs and gives o
+abbrev pub AsRead : Link → List ℕ → Reading → Out → Type 0
+AsRead l xs r o = EndsBy (l .core .job) (take (l .core .size) (l .frame)) xs r o
