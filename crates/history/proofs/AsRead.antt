@@ -181,10 +181,42 @@ byte-expects R xs t b zs l w n e =
       body = keep-length ((heardByte b (l .core .hearing)) .event) b (l .body) ∙ e .body;
     }
 
+taken-news : (R : Rules) (l : Link) (b : ℕ) (h : Hearing) (e : Event) → IsTaken e → news (byteBy R l b (heard h e)) ≡ false
+taken-news R l b h Inside i = refl
+taken-news R l b h (Kept at) i = refl
+taken-news R l b h Skipped i = absurd i
+taken-news R l b h (Alone s) i = absurd i
+taken-news R l b h (Ended e) i = absurd i
+taken-news R l b h TickHunting i = absurd i
+taken-news R l b h TickInside i = absurd i
+taken-news R l b h Aborted i = absurd i
+
+byte-news : (R : Rules) (xs : List ℕ) (t b : ℕ) (zs : List ℕ) (l : Link) → Whole xs → 0 < length zs → Expects xs t (b ∷ zs) l → news (byteOut R l b) ≡ false
+unfolding byteOut
+byte-news R xs t b zs l w n e =
+    let r = heardByte b (l .core .hearing) in
+    taken-news R l b (r .hearing) (r .event) ((byte-hears xs t (l .body) b zs (l .core .hearing) w n (e .body) (e .hears)) .0)
+
+-- it says nothing, so that it leaves the sender as it was
+byte-sender : (R : Rules) (xs : List ℕ) (t b : ℕ) (zs : List ℕ) (l : Link) → Whole xs → 0 < length zs → Expects xs t (b ∷ zs) l → SameSender l ((byteOut R l b) .link)
+byte-sender R xs t b zs l w n e =
+    let q = quiet-by-report R l b (byte-news R xs t b zs l w n e) in
+    record { job = q .job; held = q .held }
+
+-- all of the bytes ys before zs
 feed-expects : (R : Rules) (xs : List ℕ) (t : ℕ) (ys zs : List ℕ) (l : Link) → Whole xs → 0 < length zs → Expects xs t (ys ++ zs) l → Expects xs t zs (feed R l ys)
 feed-expects R xs t [] zs l w n e = e
 feed-expects R xs t (y ∷ ys) zs l w n e =
     feed-expects R xs t ys zs ((byteOut R l y) .link) w n (byte-expects R xs t y (ys ++ zs) l w (omega (arith, length-append ys zs)) e)
+
+feed-sender : (R : Rules) (xs : List ℕ) (t : ℕ) (ys zs : List ℕ) (l : Link) → Whole xs → 0 < length zs → Expects xs t (ys ++ zs) l → SameSender l (feed R l ys)
+feed-sender R xs t [] zs l w n e = record { job = refl; held = refl }
+feed-sender R xs t (y ∷ ys) zs l w n e =
+    let z = (byteOut R l y) .link in
+    let m : 0 < length (ys ++ zs) = omega (arith, length-append ys zs) in
+    let f = byte-sender R xs t y (ys ++ zs) l w m e in
+    let g = feed-sender R xs t ys zs z w n (byte-expects R xs t y (ys ++ zs) l w m e) in
+    record { job = g .job ∙ f .job; held = g .held ∙ f .held }
 
 -- ---- a tick
 tick-hears : (xs : List ℕ) (t : ℕ) (d zs : List ℕ) (h : Hearing) → t + 1 ≤ 1500 → Hears xs t d zs h → Hears xs (t + 1) d zs ((heardTick h) .hearing)
@@ -471,30 +503,16 @@ pub history-as-read : (R : Rules) (h k : List Call) (c : Call) (o : Out) (xs : L
     → ComesWhole R (after R h) k c xs → perform R (run R (after R h) k) c ≡ took o → AsRead (run R (after R h) k) xs (readingOf xs) o
 history-as-read R h k c o xs q w p = received-as-read R (after R h) k c o xs q (body-254 R h) w p
 
--- ---- the same, given one by one: by the link before the last byte
+-- ---- the same, given one by one
 pub fed-as-read : (R : Rules) (l : Link) (ys : List ℕ) (b : ℕ) → l .core .hearing ≡ Hunting → length (l .body) ≡ 254 → Whole (ys ++ (b ∷ []))
-    → AsRead (feed R l ys) (ys ++ (b ∷ [])) (readingOf (ys ++ (b ∷ []))) (byteOut R (feed R l ys) b)
+    → AsRead l (ys ++ (b ∷ [])) (readingOf (ys ++ (b ∷ []))) (byteOut R (feed R l ys) b)
 fed-as-read R l ys b q r w =
     let xs = ys ++ (b ∷ []) in
-    last-byte R xs 0 b (feed R l ys) w (feed-expects R xs 0 ys (b ∷ []) l w (omega arith) (begins xs l q r))
+    let e = begins xs l q r in
+    same-sender l (feed R l ys) (feed-sender R xs 0 ys (b ∷ []) l w (omega arith) e) xs (readingOf xs) (byteOut R (feed R l ys) b)
+    (last-byte R xs 0 b (feed R l ys) w (feed-expects R xs 0 ys (b ∷ []) l w (omega arith) e))
 
 -- ---- and in one run, whatever stands behind them in it
-taken-news : (R : Rules) (l : Link) (b : ℕ) (h : Hearing) (e : Event) → IsTaken e → news (byteBy R l b (heard h e)) ≡ false
-taken-news R l b h Inside i = refl
-taken-news R l b h (Kept at) i = refl
-taken-news R l b h Skipped i = absurd i
-taken-news R l b h (Alone s) i = absurd i
-taken-news R l b h (Ended e) i = absurd i
-taken-news R l b h TickHunting i = absurd i
-taken-news R l b h TickInside i = absurd i
-taken-news R l b h Aborted i = absurd i
-
-byte-news : (R : Rules) (xs : List ℕ) (t b : ℕ) (zs : List ℕ) (l : Link) → Whole xs → 0 < length zs → Expects xs t (b ∷ zs) l → news (byteOut R l b) ≡ false
-unfolding byteOut
-byte-news R xs t b zs l w n e =
-    let r = heardByte b (l .core .hearing) in
-    taken-news R l b (r .hearing) (r .event) ((byte-hears xs t (l .body) b zs (l .core .hearing) w n (e .body) (e .hears)) .0)
-
 ending-news : {j : Job} {held answer up : List ℕ} {r : Reception} {o : Out} → Ending j held r answer up o → newsReception r ≡ true → news o ≡ true
 ending-news {o = o} e n = ap (λ (x : Bool). pick x true (pick (newsSending (o .sending)) true (pick (newsSession (o .session)) true (newsReset (o .reset))))) (ap newsReception (e .reception) ∙ n)
 
@@ -529,9 +547,8 @@ from-as-read R xs t b [] behind n o w e =
     (λ f. absurd (false≢true (sym f ∙ as-read-news (o .link) xs (readingOf xs) (byteOut R (o .link) b) a)))
 from-as-read R xs t b (z ∷ zs) behind n o w e =
     let f = byte-news R xs t b (z ∷ zs) (o .link) w (omega arith) e in
-    let q = quiet-by-report R (o .link) b f in
     let i = from-as-read R xs t z zs behind (n + 1) (byteOut R (o .link) b) w (byte-expects R xs t b (z ∷ zs) (o .link) w (omega arith) e) in
-    let s : SameSender (o .link) ((byteOut R (o .link) b) .link) = record { job = q .job; held = q .held } in
+    let s = byte-sender R xs t b (z ∷ zs) (o .link) w (omega arith) e in
     pick-by (RunAsRead (o .link) xs (n + suc (suc (length zs)))) (news (byteOut R (o .link) b)) _ _ (λ g. absurd (false≢true (sym f ∙ g)))
     (λ _. record { taken = i .taken ∙ omega arith; out = same-sender (o .link) ((byteOut R (o .link) b) .link) s xs (readingOf xs) _ (i .out) })
 

@@ -11,7 +11,7 @@ pub mod Ranges
 pub mod Section11
 pub mod Bodies
 pub mod Runs
+pub mod AsRead
 pub mod Receives
 pub mod HandedUp
-pub mod AsRead
 pub mod Promise
