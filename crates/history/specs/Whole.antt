@@ -30,11 +30,12 @@ pub data Whole (xs : List ℕ) : Type 0 where
   full : (len : ℕ) (rest : List ℕ) → xs ≡ 1 ∷ len ∷ rest → 3 ≤ len → len ≤ 255 → length rest ≡ len → Whole xs
 
 -- ---- the calls that take them
+-- by what a call took: nothing, so that the first byte is taken later; or the first byte, so that what is behind the call counts
 abbrev pub fromFirst : List ℕ → ℕ → ℕ → ℕ
 fromFirst [] behind later = later
 fromFirst (b ∷ bs) behind later = behind
 
--- the accepted ticks behind the call that takes the first byte of all, which the clock of its frame counts
+-- the accepted ticks behind the call that takes the first byte of all: where that is the 01 of a frame, its clock counts them
 abbrev pub clockIn : Rules → Link → List Call → ℕ
 clockIn R l [] = 0
 clockIn R l (c ∷ h) =
@@ -42,12 +43,13 @@ clockIn R l (c ∷ h) =
     (ticksIn R (next l (perform R l c)) h)
     (clockIn R (next l (perform R l c)) h)
 
--- These bytes come whole to the link l by the calls k and the call c: whatever else is called between them, and refused or not.
+-- The bytes xs come whole to the link l, in the calls k and then the call c, by single bytes or runs. Ticks, sends and sessions may lie between, accepted or not.
 pub record ComesWhole (R : Rules) (l : Link) (k : List Call) (c : Call) (xs : List ℕ) : Type 0 where
   pub whole : Whole xs
   pub bytes : received R l k ++ takenBy R (run R l k) (c .what) ≡ xs
   -- the last of them in the call c
   pub last : 0 < length (takenBy R (run R l k) (c .what))
+  -- no accepted restart lies between
   pub restarts : restartsIn R l k ≡ 0
   -- "A frame whose last byte comes after 1,500 ticks counts; the 1,501st tick aborts."
   pub ticks : clockIn R l k ≤ 1500
