@@ -10,7 +10,7 @@ use lib.ListN.{length, getD, length-drop}
 use Rattle.frame.specs.Pick.{pick}
 use Rattle.frame.specs.declared.refusal.Refusal.{Refusal}
 use Rattle.frame.specs.declared.refusal.Refusal.the-variants as refusal
-use Rattle.frame.proofs.Picks.{picked-first}
+use Rattle.frame.proofs.Picks.{picked-first, through}
 use Rattle.frame.proofs.Theorems.{fixed}
 use Rattle.masks.specs.Mask.{bitOf, marks, marked, onesIn, Rising, Bytes}
 use Rattle.capabilities.specs.Capabilities.{word, functionMask, isCapabilities, supported, answerOf, capabilitiesTold, capabilitiesOf, supportTold, supportOf}
@@ -18,7 +18,7 @@ use Rattle.capabilities.specs.declared.Capabilities.{Capabilities}
 use Rattle.capabilities.specs.declared.Capabilities.the-variants as capabilities
 use Rattle.capabilities.specs.declared.Support.{Support}
 use Rattle.capabilities.specs.declared.Support.the-variants as support
-use Rattle.masks.proofs.Layouts.{bytes-from, through}
+use Rattle.masks.proofs.Layouts.{bytes-from}
 use Rattle.capabilities.proofs.Layouts.{of-capabilities, capabilities-yes}
 use Rattle.masks.proofs.Marked.{marks-one, marks-most, member-to, member-from, marked-rising}
 use Rattle.masks.proofs.Masks.{ones-supported}

@@ -1,4 +1,4 @@
--- From what `pick` gave back to the test: a case that it cannot have given tells which one it did.
+-- From what `pick` gave back to the test: a case that it cannot have given tells which one it did. And what a function makes of what it gave.
 -- Assumes nothing.
 use Prim.Native.Nat.{ℕ}
 use native.Mathlib.Omega.{arith}
@@ -18,3 +18,11 @@ picked-second false n e = (refl, e)
 
 pub no : true ≡ false → ⊥
 no e = let z : _≡_ {A = ℕ} 0 1 = ap (λ (t : Bool). pick t 0 1) e in omega arith
+
+-- a function of what a test picks is picked among its values, each by its other name
+pub through-by : {A B : Type 0} (f : A → B) (t : Bool) {x y : A} {u v : B} → f x ≡ u → f y ≡ v → f (pick t x y) ≡ pick t u v
+through-by f true p q = p
+through-by f false p q = q
+
+pub through : {A B : Type 0} (f : A → B) (t : Bool) (x y : A) → f (pick t x y) ≡ pick t (f x) (f y)
+through f t x y = through-by f t refl refl

@@ -16,8 +16,9 @@ use Rattle.frame.specs.declared.builder.Built.the-variants.{Refused, Fra
 use Rattle.frame.specs.Bytes.{xorAll, Laid}
 use Rattle.frame.specs.Refusals.{numberOf}
 use Rattle.frame.specs.Frame.{counted, checksum, frameOf}
-use Rattle.frame.specs.Builder.{builtOf, Build}
-use Rattle.frame.proofs.Picks.{picked-second}
+use Rattle.frame.specs.Pick.{pick}
+use Rattle.frame.specs.Builder.{builtOf, builtTold, Build}
+use Rattle.frame.proofs.Picks.{picked-second, through-by}
 
 -- Section 12: each promise determines its answer and every lent byte after the call, refusals too.
 
@@ -77,6 +78,19 @@ build-accepts kind n room m e =
 -- and so it is
 pub build-accepted : (kind n room : ℕ) → kind ≤ 1 → n ≤ 252 → n + 5 ≤ room → builtOf kind n room ≡ Frame (n + 5)
 build-accepted kind n room k l r = simp (le-ltb 1 kind k, le-ltb 252 n l, le-ltb room (n + 5) r)
+
+-- Section 3, build: KIND, LONG, ROOM, each by its number alone; of a frame 0 and its length
+pub build-told : {kind command : ℕ} {ps lent : List ℕ} {r : Built} {lent′ : List ℕ} → Build kind command ps lent r lent′
+    → builtTold r
+    ≡ pick (ltb 1 kind) (3 ∷ [])
+    (pick (ltb 252 (length ps)) (4 ∷ [])
+    (pick (ltb (length lent) (length ps + 5)) (1 ∷ [])
+    (0 ∷ (length ps + 5) ∷ [])))
+build-told {kind} {command} {ps} {lent} b =
+    ap builtTold (b .answer)
+    ∙ through-by builtTold (ltb 1 kind) refl
+    (through-by builtTold (ltb 252 (length ps)) refl
+    (through-by builtTold (ltb (length lent) (length ps + 5)) refl refl))
 
 -- Section 3: the refusals in the order of their numbers
 abbrev pub eleven : List Refusal

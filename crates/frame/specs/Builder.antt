@@ -2,12 +2,13 @@
 -- Assumes nothing.
 use Prim.Native.Nat.{ℕ, _+_}
 use mathlib.Core.Path.{_≡_}
-use mathlib.Core.List.{List}
+use mathlib.Core.List.{List, [], _∷_}
 use lib.Dec.{ltb}
 use lib.ListN.{length}
 use Rattle.frame.specs.Pick.{pick}
 use Rattle.frame.specs.Bytes.{over}
 use Rattle.frame.specs.Frame.{frameOf}
+use Rattle.frame.specs.Refusals.{numberOf}
 use Rattle.frame.specs.declared.refusal.Refusal.the-variants as refusal
 use Rattle.frame.specs.declared.builder.Built.{Built}
 use Rattle.frame.specs.declared.builder.Built.the-variants.{Refused, Frame}
@@ -19,6 +20,11 @@ builtOf kind n room =
     (pick (ltb 252 n) (Refused refusal.Long)
     (pick (ltb room (n + 5)) (Refused refusal.Room)
     (Frame (n + 5))))
+
+-- A refusal returns its number alone; a frame is told by 0 and its length.
+abbrev pub builtTold : Built → List ℕ
+builtTold (Refused k) = numberOf k ∷ []
+builtTold (Frame n) = 0 ∷ n ∷ []
 
 -- the lent bytes after the call
 abbrev pub leftBy : Built → List ℕ → List ℕ → List ℕ

@@ -1,6 +1,6 @@
 -- What layouts share: the part of a body from a place on, and tests one after the other.
 -- Assumes nothing.
-use mathlib.Core.Path.{_≡_, refl, sym, ap, _∙_}
+use mathlib.Core.Path.{_≡_, sym, ap, _∙_}
 use mathlib.Core.Bool.{Bool, true, false}
 use mathlib.Core.List.{List}
 use Prim.Native.Nat.{ℕ, _≤_, _<_, _+_, _-_}
@@ -39,8 +39,3 @@ neither t = picked-second t no
 
 pub answers-by : (body : List ℕ) (command : ℕ) → 2 ≤ length body → getD body 0 0 ≡ 1 → answers body command ≡ eqb (getD body 1 0) command
 answers-by body command h e = simp (le-ltb (length body) 2 h, eq-eqb (getD body 0 0) 1 e)
-
--- a function of what a test picks is picked among its values
-pub through : {A B : Type 0} (f : A → B) (t : Bool) (x y : A) → f (pick t x y) ≡ pick t (f x) (f y)
-through f true x y = refl
-through f false x y = refl

@@ -11,12 +11,12 @@ use lib.Dec.{ltb}
 use borrow.Author.Tests.{lt-ltb}
 use Rattle.frame.specs.Pick.{pick}
 use Rattle.frame.specs.declared.refusal.Refusal.the-variants as refusal
+use Rattle.frame.proofs.Picks.{through}
 use Rattle.frame.proofs.Theorems.{fixed}
 use Rattle.masks.specs.Mask.{bitOf, marked, Rising}
 use Rattle.nodes.specs.Nodes.{isNodeList, nodeMask, nodesOf, nodeAnswer, nodesTold, nodeListOf, leftBy, Listed}
 use Rattle.nodes.specs.declared.NodeList.{NodeList}
 use Rattle.nodes.specs.declared.NodeList.the-variants as nodes
-use Rattle.masks.proofs.Layouts.{through}
 use Rattle.nodes.proofs.Layouts.{node-list-yes}
 use Rattle.masks.proofs.Marked.{marks-one, member-to, member-from, marked-rising, marked-none}
 use Rattle.masks.proofs.Masks.{marked-le}
