@@ -1,20 +1,23 @@
 -- What holds of reading a frame, over all inputs: what was built reads back, and what reads is what building gives.
 -- Assumes nothing.
 use mathlib.Core.Path.{_≡_, refl, sym, ap, _∙_}
-use mathlib.Core.List.{List, [], _∷_, _++_}
-use Prim.Native.Nat.{ℕ, _+_, _≤_, _<_}
+use mathlib.Core.List.{List, [], _∷_}
+use Prim.Native.Nat.{ℕ, _+_, _-_, _≤_, _<_}
 use native.Mathlib.Omega.{arith}
-use lib.ListN.{length, getD, take, drop, take-append-drop}
-use lib.Seq.{take-append-seam, take-length, take-at, drop-at}
+use lib.Dec.{ltb, eqb}
+use lib.ListN.{length, getD, take, drop}
+use lib.Seq.{take-append-seam, take-at, drop-at}
+use Rattle.frame.specs.Pick.{pick}
 use Rattle.frame.specs.declared.builder.Built.{Built}
 use Rattle.frame.specs.declared.builder.Built.the-variants.{Frame}
 use Rattle.frame.specs.Bytes.{over}
 use Rattle.frame.specs.Frame.{counted, checksum, frameOf}
 use Rattle.frame.specs.Builder.{builtOf, leftBy, Build}
+use Rattle.frame.proofs.Picks.{through-by}
 use Rattle.frame.proofs.Theorems.{fixed, frame-length, frame-checksum, build-accepts, build-accepted}
 use Rattle.reading.specs.declared.reader.Reading.{Reading}
 use Rattle.reading.specs.declared.reader.Reading.the-variants.{Parts}
-use Rattle.reading.specs.Reader.{readingOf, parametersOf}
+use Rattle.reading.specs.Reader.{readingTold, readingOf, parametersOf}
 use Rattle.reading.proofs.Whole.{Whole, reads-whole, whole-reads, whole-length, whole-frame}
 
 -- Section 12: the promise determines its answer.
@@ -67,19 +70,50 @@ read-built bytes kind command n e =
     let w = reads-whole bytes kind command n e in
     (whole-frame bytes kind command n w, whole-length bytes kind command n w, w .known, λ h. omega (arith, w .counts))
 
--- so building from what was read gives the same bytes again
+-- so building from what was read gives the same bytes again, over the first of any lent bytes that are as many or more
 pub read-rebuilds : (bytes : List ℕ) (kind command n : ℕ) → readingOf bytes ≡ Parts kind command n → getD bytes 1 0 < 256
-    → Build kind command (parametersOf bytes n) bytes (Frame (length bytes)) bytes
-read-rebuilds bytes kind command n e h =
+    → (lent : List ℕ) → length bytes ≤ length lent
+    → Build kind command (parametersOf bytes n) lent (Frame (length bytes)) (over bytes lent)
+read-rebuilds bytes kind command n e h lent room =
     let ps = parametersOf bytes n in
     let f = frameOf kind command ps in
     let b = read-built bytes kind command n e in
     let small : n ≤ 252 = b .3 h in
     let l : length bytes ≡ length ps + 5 = ap length (b .0) ∙ frame-length kind command ps in
-    let a : builtOf kind (length ps) (length bytes) ≡ Frame (length bytes) =
-    build-accepted kind (length ps) (length bytes) (b .2) (omega (arith, b .1)) (omega arith) ∙ ap Frame (sym l) in
-    let t : take (length f) bytes ≡ f = ap (λ (s : List ℕ). take (length s) bytes) (sym (b .0)) ∙ take-length bytes ∙ b .0 in
+    let a : builtOf kind (length ps) (length lent) ≡ Frame (length bytes) =
+    build-accepted kind (length ps) (length lent) (b .2) (omega (arith, b .1)) (omega arith) ∙ ap Frame (sym l) in
     record {
       answer = sym a;
-      left = sym (take-append-drop (length f) bytes) ∙ ap (λ (s : List ℕ). s ++ drop (length f) bytes) t ∙ ap (λ (r : Built). leftBy r f bytes) (sym a);
+      left = ap (λ (s : List ℕ). over s lent) (b .0) ∙ ap (λ (r : Built). leftBy r f lent) (sym a);
     }
+
+-- Section 3, read: each refusal by its number alone, in the order of the checks; of a frame 0, Type, Command and the number of parameters
+module _ (bytes : List ℕ) where
+  abbrev len : ℕ
+  len = getD bytes 1 0
+
+  pub read-told : {r : Reading} → r ≡ readingOf bytes
+      → readingTold r
+      ≡ pick (eqb (length bytes) 0) (5 ∷ [])
+      (pick (eqb (getD bytes 0 0) 1)
+      (pick (eqb (length bytes) 1) (5 ∷ [])
+      (pick (ltb len 3) (7 ∷ [])
+      (pick (ltb (length bytes) (len + 2)) (5 ∷ [])
+      (pick (ltb (len + 2) (length bytes)) (8 ∷ [])
+      (pick (eqb (checksum (take len (drop 1 bytes))) (getD bytes (len + 1) 0))
+      (pick (ltb 1 (getD bytes 2 0)) (3 ∷ [])
+      (0 ∷ getD bytes 2 0 ∷ getD bytes 3 0 ∷ (len - 3) ∷ []))
+      (9 ∷ []))))))
+      (6 ∷ []))
+  read-told e =
+      ap readingTold e
+      ∙ through-by readingTold (eqb (length bytes) 0) refl
+      (through-by readingTold (eqb (getD bytes 0 0) 1)
+      (through-by readingTold (eqb (length bytes) 1) refl
+      (through-by readingTold (ltb len 3) refl
+      (through-by readingTold (ltb (length bytes) (len + 2)) refl
+      (through-by readingTold (ltb (len + 2) (length bytes)) refl
+      (through-by readingTold (eqb (checksum (take len (drop 1 bytes))) (getD bytes (len + 1) 0))
+      (through-by readingTold (ltb 1 (getD bytes 2 0)) refl refl)
+      refl)))))
+      refl)

@@ -1,14 +1,20 @@
 -- Section 3, reading a whole frame: empty SHORT; START; one byte only SHORT; LENGTH; fewer than Length + 2 SHORT; more TAIL; SUM; KIND.
 -- Assumes nothing.
 use Prim.Native.Nat.{ℕ, _+_, _-_}
-use mathlib.Core.List.{List}
+use mathlib.Core.List.{List, [], _∷_}
 use lib.Dec.{ltb, eqb}
 use lib.ListN.{length, getD, take, drop}
 use Rattle.frame.specs.Pick.{pick}
 use Rattle.frame.specs.Frame.{checksum}
+use Rattle.frame.specs.Refusals.{numberOf}
 use Rattle.frame.specs.declared.refusal.Refusal.the-variants as refusal
 use Rattle.reading.specs.declared.reader.Reading.{Reading}
 use Rattle.reading.specs.declared.reader.Reading.the-variants.{Refused, Parts}
+
+-- A refusal returns its number alone; a frame is told by 0, Type, Command and the number of parameters.
+abbrev pub readingTold : Reading → List ℕ
+readingTold (Refused k) = numberOf k ∷ []
+readingTold (Parts kind command count) = 0 ∷ kind ∷ command ∷ count ∷ []
 
 -- of bytes that are as many as their Length says: SUM, KIND, and the parts
 abbrev pub measuredOf : List ℕ → ℕ → Reading
