@@ -1,18 +1,21 @@
 -- The two units of time, there and back, and what the promises fix.
 -- Assumes nothing.
-use mathlib.Core.Path.{_≡_, ap}
+use mathlib.Core.Path.{_≡_, refl, ap, _∙_}
+use mathlib.Core.List.{[], _∷_}
 use Prim.Native.Nat.{ℕ, _*_, _/_, _%_, _≤_}
 use native.Mathlib.Omega.{arith}
 use lib.Dec.{ltb, eqb}
 use borrow.Author.Tests.{le-ltb, eq-eqb, ltb-false, eqb-true}
+use Rattle.frame.specs.Pick.{pick}
 use Rattle.frame.specs.declared.refusal.Refusal.{Refusal}
-use Rattle.frame.proofs.Picks.{picked-first, picked-second}
+use Rattle.frame.specs.declared.refusal.Refusal.the-variants as refusal
+use Rattle.frame.proofs.Picks.{picked-first, picked-second, through-by}
 use Rattle.frame.proofs.Theorems.{fixed}
 use Rattle.units.specs.declared.Millis.{Millis}
 use Rattle.units.specs.declared.Ticks10.{Ticks10}
 use Rattle.units.specs.declared.Converted.{Converted}
 use Rattle.units.specs.declared.Converted.the-variants.{Refused, Ticks}
-use Rattle.units.specs.Units.{convertedOf, millisOf}
+use Rattle.units.specs.Units.{convertedTold, convertedOf, millisOf}
 
 -- Section 12: each promise determines its answer, refusals too
 pub ticks-of-determined : (m : Millis) {r q : Converted} → r ≡ convertedOf m → q ≡ convertedOf m → r ≡ q
@@ -41,3 +44,17 @@ millis-back m t e =
     let d : m .0 / 10 ≡ t .0 = ap (λ (x : Ticks10). x .0) s in
     let f : t .0 * 10 ≡ m .0 = omega arith in
     (rw f, omega arith)
+
+-- Section 3: RANGE by its number alone, above 2,550 ms or no multiple of 10; else 0 and the ticks
+pub ticks-told : (m : Millis) {r : Converted} → r ≡ convertedOf m
+    → convertedTold r ≡ pick (ltb 2550 (m .0)) (11 ∷ []) (pick (eqb (m .0 % 10) 0) (0 ∷ (m .0 / 10) ∷ []) (11 ∷ []))
+ticks-told m e =
+    ap convertedTold e
+    ∙ through-by convertedTold (ltb 2550 (m .0)) refl
+    (through-by convertedTold (eqb (m .0 % 10) 0) refl refl)
+
+-- Section 10: 2,550 ms is 255; 2,560 and 1,505 are RANGE
+pub range-edges : (convertedOf (record { 0 = 2550 }) ≡ Ticks (record { 0 = 255 }))
+    × (convertedOf (record { 0 = 2560 }) ≡ Refused refusal.Range)
+    × (convertedOf (record { 0 = 1505 }) ≡ Refused refusal.Range)
+range-edges = (refl, refl, refl)

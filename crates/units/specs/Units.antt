@@ -1,13 +1,20 @@
 -- Sections 3, 5 and 8: milliseconds, and the Set Timeouts command's ticks of 10 ms.
 -- Assumes nothing.
-use Prim.Native.Nat.{_*_, _/_, _%_}
+use Prim.Native.Nat.{ℕ, _*_, _/_, _%_}
+use mathlib.Core.List.{List, [], _∷_}
 use lib.Dec.{ltb, eqb}
 use Rattle.frame.specs.Pick.{pick}
+use Rattle.frame.specs.Refusals.{numberOf}
 use Rattle.frame.specs.declared.refusal.Refusal.the-variants as refusal
 use Rattle.units.specs.declared.Millis.{Millis}
 use Rattle.units.specs.declared.Ticks10.{Ticks10}
 use Rattle.units.specs.declared.Converted.{Converted}
 use Rattle.units.specs.declared.Converted.the-variants.{Refused, Ticks}
+
+-- A refusal returns its number alone; a time is told by 0 and its ticks.
+abbrev pub convertedTold : Converted → List ℕ
+convertedTold (Refused k) = numberOf k ∷ []
+convertedTold (Ticks t) = 0 ∷ t .0 ∷ []
 
 -- a multiple of 10, 0 to 2,550 ms, else RANGE
 abbrev pub convertedOf : Millis → Converted
