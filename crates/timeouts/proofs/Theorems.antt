@@ -2,18 +2,19 @@
 -- Assumes nothing.
 use mathlib.Core.Path.{_≡_, refl, sym, ap, ap₂, _∙_}
 use mathlib.Core.List.{List, [], _∷_}
-use Prim.Native.Nat.{ℕ}
+use Prim.Native.Nat.{ℕ, _/_, _%_}
 use native.Mathlib.Omega.{arith}
 use lib.ListN.{length, take, drop, replicate}
-use lib.Dec.{ltb}
+use lib.Dec.{ltb, eqb}
 use Rattle.frame.specs.Pick.{pick}
 use Rattle.frame.specs.Bytes.{xorAll}
 use Rattle.frame.specs.Frame.{frameOf}
-use Rattle.frame.specs.Builder.{Build}
+use Rattle.frame.specs.Builder.{builtTold, Build}
 use Rattle.frame.specs.declared.refusal.Refusal.{Refusal}
 use Rattle.frame.specs.declared.refusal.Refusal.the-variants as refusal
 use Rattle.frame.specs.declared.builder.Built.{Built}
 use Rattle.frame.specs.declared.builder.Built.the-variants as built
+use Rattle.frame.proofs.Picks.{through, through-by}
 use Rattle.frame.proofs.Theorems.{fixed, build-accepts}
 use Rattle.reading.specs.Reader.{readingOf, parametersOf}
 use Rattle.reading.specs.declared.reader.Reading.the-variants.{Parts}
@@ -24,10 +25,9 @@ use Rattle.units.specs.declared.Ticks10.{Ticks10}
 use Rattle.units.specs.declared.Converted.{Converted}
 use Rattle.units.specs.declared.Converted.the-variants as converted
 use Rattle.units.proofs.Theorems.{millis-back}
-use Rattle.timeouts.specs.Timeouts.{setOf, setTold, SetTimeouts, isOldTimeouts, timeAt, oldTold, oldTimeoutsOf}
+use Rattle.timeouts.specs.Timeouts.{ticksFor, setOf, SetTimeouts, isOldTimeouts, timeAt, oldTold, oldTimeoutsOf}
 use Rattle.timeouts.specs.declared.OldTimeouts.{OldTimeouts}
 use Rattle.timeouts.specs.declared.OldTimeouts.the-variants as old
-use Rattle.masks.proofs.Layouts.{through}
 use Rattle.timeouts.proofs.Setting.{set-answer, set-left}
 
 -- ---- Section 12: each promise determines its answer and every lent byte after the call, refusals too
@@ -91,11 +91,35 @@ timeouts-told body = through oldTold (isOldTimeouts body) (old.Were (timeAt body
 
 -- RANGE, then ROOM
 pub set-range : (k : Refusal) (a : Ticks10) (y : Converted) (room : ℕ)
-    → (setTold (setOf (converted.Refused k) y room) ≡ 11 ∷ []) × (setTold (setOf (converted.Ticks a) (converted.Refused k) room) ≡ 11 ∷ [])
+    → (builtTold (setOf (converted.Refused k) y room) ≡ 11 ∷ []) × (builtTold (setOf (converted.Ticks a) (converted.Refused k) room) ≡ 11 ∷ [])
 set-range k a y room = (refl, refl)
 
-pub set-room : (a b : Ticks10) (room : ℕ) → setTold (setOf (converted.Ticks a) (converted.Ticks b) room) ≡ pick (ltb room 7) (1 ∷ []) (0 ∷ 7 ∷ [])
-set-room a b room = through setTold (ltb room 7) (built.Refused refusal.Room) (built.Frame 7)
+pub set-room : (a b : Ticks10) (room : ℕ) → builtTold (setOf (converted.Ticks a) (converted.Ticks b) room) ≡ pick (ltb room 7) (1 ∷ []) (0 ∷ 7 ∷ [])
+set-room a b room = through builtTold (ltb room 7) (built.Refused refusal.Room) (built.Frame 7)
+
+-- the second time, where the first is so many ticks
+set-told-by : (rxbyte : Millis) (room : ℕ) (t : Ticks10)
+    → builtTold (setOf (converted.Ticks t) (convertedOf rxbyte) room)
+    ≡ pick (ltb 2550 (rxbyte .0)) (11 ∷ []) (pick (eqb (rxbyte .0 % 10) 0) (pick (ltb room 7) (1 ∷ []) (0 ∷ 7 ∷ [])) (11 ∷ []))
+set-told-by rxbyte room t =
+    let f : Converted → List ℕ = λ (y : Converted). builtTold (setOf (converted.Ticks t) y room) in
+    through-by f (ltb 2550 (rxbyte .0)) refl (through-by f (eqb (rxbyte .0 % 10) 0) (set-room t (record { 0 = rxbyte .0 / 10 }) room) refl)
+
+-- of the promise: a time above 2,550 ms or no multiple of 10 is RANGE, then ROOM below 7 bytes, else a frame of 7
+pub set-told : {rxack rxbyte : Millis} {lent : List ℕ} {r : Built} {lent′ : List ℕ} → SetTimeouts rxack rxbyte lent r lent′
+    → builtTold r
+    ≡ pick (ltb 2550 (rxack .0)) (11 ∷ [])
+    (pick (eqb (rxack .0 % 10) 0)
+    (pick (ltb 2550 (rxbyte .0)) (11 ∷ [])
+    (pick (eqb (rxbyte .0 % 10) 0)
+    (pick (ltb (length lent) 7) (1 ∷ []) (0 ∷ 7 ∷ []))
+    (11 ∷ [])))
+    (11 ∷ []))
+set-told {rxack} {rxbyte} {lent} s =
+    let f : Converted → List ℕ = λ (x : Converted). builtTold (setOf x (convertedOf rxbyte) (length lent)) in
+    ap builtTold (s .answer)
+    ∙ through-by f (ltb 2550 (rxack .0)) refl
+    (through-by f (eqb (rxack .0 % 10) 0) (set-told-by rxbyte (length lent) (record { 0 = rxack .0 / 10 })) refl)
 
 -- ---- Section 10
 
@@ -105,8 +129,13 @@ pub timeouts-example : (r : Built) (lent′ : List ℕ) → SetTimeouts (record 
 unfolding frameOf xorAll
 timeouts-example r lent′ s = (s .answer, s .left)
 
--- 2,550 ms is 255; 2,560 and 1,505 are RANGE
+-- 2,550 ms is 255: FF stands in both places of the frame that is left in 7 lent bytes. 2,560 and 1,505 are RANGE.
 pub range-edges : (setOf (convertedOf (record { 0 = 2550 })) (convertedOf (record { 0 = 2550 })) 7 ≡ built.Frame 7)
+    × (ticksFor (convertedOf (record { 0 = 2550 })) (convertedOf (record { 0 = 2550 })) ≡ 255 ∷ 255 ∷ [])
+    × ((a b c d e f g : ℕ) (r : Built) (lent′ : List ℕ)
+    → SetTimeouts (record { 0 = 2550 }) (record { 0 = 2550 }) (a ∷ b ∷ c ∷ d ∷ e ∷ f ∷ g ∷ []) r lent′
+    → (r ≡ built.Frame 7) × (lent′ ≡ 1 ∷ 5 ∷ 0 ∷ 6 ∷ 255 ∷ 255 ∷ 252 ∷ []))
     × (setOf (convertedOf (record { 0 = 2560 })) (convertedOf (record { 0 = 150 })) 7 ≡ built.Refused refusal.Range)
     × (setOf (convertedOf (record { 0 = 150 })) (convertedOf (record { 0 = 1505 })) 7 ≡ built.Refused refusal.Range)
-range-edges = (refl, refl, refl)
+unfolding frameOf xorAll
+range-edges = (refl, refl, λ a b c d e f g r lent′ s. (s .answer, s .left), refl, refl)

@@ -34,11 +34,6 @@ setOf (converted.Refused k) b room = built.Refused refusal.Range
 setOf (converted.Ticks a) (converted.Refused k) room = built.Refused refusal.Range
 setOf (converted.Ticks a) (converted.Ticks b) room = builtOf 0 2 room
 
--- the number of the refusal; of a frame 0 and its length
-abbrev pub setTold : Built → List ℕ
-setTold (built.Refused k) = numberOf k ∷ []
-setTold (built.Frame n) = 0 ∷ n ∷ []
-
 pub record SetTimeouts (rxack rxbyte : Millis) (lent : List ℕ) (r : Built) (lent′ : List ℕ) : Type 0 where
   pub answer : r ≡ setOf (convertedOf rxack) (convertedOf rxbyte) (length lent)
   pub left : lent′
