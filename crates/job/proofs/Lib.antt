@@ -1,1 +1,2 @@
 mod Else
+pub mod Theorems

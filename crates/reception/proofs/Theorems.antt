@@ -2,12 +2,13 @@
 --     hear-byte-determined, hear-tick-determined                    the next hearing and the event
 --     hunted-determined, measured-determined, followed-determined   the same, by where the hearing stands
 --     hunting-determined                                            whether it hunts
---     keep-determined                                               the body after a byte
+--     keep-determined                                               the body of 254 bytes after a byte
 -- Assumes nothing.
 use mathlib.Core.Path.{_≡_}
 use mathlib.Core.Bool.{Bool}
 use mathlib.Core.List.{List}
 use Prim.Native.Nat.{ℕ}
+use lib.ListN.{length}
 use Rattle.frame.proofs.Theorems.{fixed}
 use Rattle.reception.specs.declared.hearing.Event.{Event}
 use Rattle.reception.specs.declared.hearing.Heard.{Heard}
@@ -33,5 +34,6 @@ followed-determined p b x y = fixed x y
 pub hunting-determined : (h : Hearing) {r q : Bool} → r ≡ isHunting h → q ≡ isHunting h → r ≡ q
 hunting-determined h x y = fixed x y
 
-pub keep-determined : (e : Event) (b : ℕ) (body : List ℕ) {r q : List ℕ} → r ≡ keep e b body → q ≡ keep e b body → r ≡ q
-keep-determined e b body x y = fixed x y
+pub keep-determined : (e : Event) (b : ℕ) (body : List ℕ) {r q : List ℕ} → length body ≡ 254
+    → (length body ≡ 254 → r ≡ keep e b body) → (length body ≡ 254 → q ≡ keep e b body) → r ≡ q
+keep-determined e b body n x y = fixed (x n) (y n)

@@ -1,0 +1,38 @@
+-- The job's promises fix their answers (document 01, section 12).
+--     goes-on-determined                         the job goes on
+--     start-determined                           the next copy, out or due
+--     lose-determined                            a copy given up; the promise is for every cause, hunting or not
+--     is-open-determined                         whether a send or session is open
+--     on-tick-determined, on-abort-determined    a tick, and one that aborts a frame
+-- Assumes nothing.
+use mathlib.Core.Path.{_≡_}
+use mathlib.Core.Bool.{Bool, true}
+use Prim.Native.Nat.{ℕ}
+use Rattle.frame.proofs.Theorems.{fixed}
+use Rattle.job.specs.declared.report.Sending.{Sending}
+use Rattle.job.specs.declared.job.Asking.{Asking}
+use Rattle.job.specs.declared.job.Job.{Job}
+use Rattle.job.specs.declared.job.Act.{Act}
+use Rattle.job.specs.Rules.{Cause, told, base}
+use Rattle.job.specs.Job.{goesOn, start, lose, isOpen}
+use Rattle.job.specs.Ticks.{onTick, onAbort}
+
+pub goes-on-determined : (j : Job) (s : Sending) {r q : Act} → r ≡ goesOn j s → q ≡ goesOn j s → r ≡ q
+goes-on-determined j s = fixed
+
+pub start-determined : (hunting : Bool) (a : Asking) (n : ℕ) {r q : Act} → r ≡ start hunting a n → q ≡ start hunting a n → r ≡ q
+start-determined hunting a n = fixed
+
+pub lose-determined : (a : Asking) (n : ℕ) {r q : Act}
+    → ((cause : Cause) (hunting : Bool) → r ≡ lose base cause hunting a n)
+    → ((cause : Cause) (hunting : Bool) → q ≡ lose base cause hunting a n) → r ≡ q
+lose-determined a n x y = fixed (x told true) (y told true)
+
+pub is-open-determined : (j : Job) {r q : Bool} → r ≡ isOpen j → q ≡ isOpen j → r ≡ q
+is-open-determined j = fixed
+
+pub on-tick-determined : (size : ℕ) (hunting : Bool) (j : Job) {r q : Act} → r ≡ onTick base size hunting j → q ≡ onTick base size hunting j → r ≡ q
+on-tick-determined size hunting j = fixed
+
+pub on-abort-determined : (size : ℕ) (j : Job) {r q : Act} → r ≡ onAbort base size j → q ≡ onAbort base size j → r ≡ q
+on-abort-determined size j = fixed
