@@ -1,11 +1,17 @@
 -- The promises of the exported functions fix their answers and every lent byte (document 01, section 12).
--- Those of `sarnaqel_read` and `sarnaqel_count` are equations.
+--     ended-determined   sarnaqel_runs, sarnaqel_bytes, sarnaqel_ticks
+--     built-determined   sarnaqel_build
+--     read-determined    sarnaqel_read
+--     count-determined   sarnaqel_count: the nine counts that it leaves
 -- Assumes nothing.
 use mathlib.Core.Path.{_≡_}
 use mathlib.Core.List.{List}
 use Prim.Native.Nat.{ℕ}
 use Rattle.frame.proofs.Theorems.{fixed}
-use Rattle.exports.specs.Numbers.{BuiltAs}
+use Rattle.reading.specs.Reader.{readingOf}
+use Rattle.tally.specs.Tally.{fresh}
+use Rattle.counting.specs.Counting.{countedFrom}
+use Rattle.exports.specs.Numbers.{readingNumber, BuiltAs, countsOf}
 use Rattle.exports.specs.Feeding.{Fed, Ended}
 
 pub ended-determined : {f : Fed} {r q : ℕ} {a b c d : List ℕ} → Ended f r a b → Ended f q c d → (r ≡ q) × (a ≡ c) × (b ≡ d)
@@ -14,3 +20,9 @@ ended-determined x y = (fixed (x .answer) (y .answer), fixed (x .line-left) (y .
 pub built-determined : {kind command : ℕ} {ps lent : List ℕ} {r q : ℕ} {a b : List ℕ}
     → BuiltAs kind command ps lent r a → BuiltAs kind command ps lent q b → (r ≡ q) × (a ≡ b)
 built-determined x y = (fixed (x .answer) (y .answer), fixed (x .left) (y .left))
+
+pub read-determined : (bytes : List ℕ) {r q : ℕ} → r ≡ readingNumber (readingOf bytes) → q ≡ readingNumber (readingOf bytes) → r ≡ q
+read-determined bytes = fixed
+
+pub count-determined : (input : List ℕ) {a b : List ℕ} → a ≡ countsOf (countedFrom fresh input) → b ≡ countsOf (countedFrom fresh input) → a ≡ b
+count-determined input = fixed

@@ -12,16 +12,12 @@ use Rattle.frame.specs.declared.builder.Built.the-variants as built
 use Rattle.frame.specs.declared.refusal.Refusal.{Refusal}
 use Rattle.reading.specs.declared.reader.Reading.{Reading}
 use Rattle.reading.specs.declared.reader.Reading.the-variants as reading
-use Rattle.units.specs.declared.Millis.{Millis}
 use Rattle.report.specs.declared.report.Reception.{Reception}
-use Rattle.report.specs.declared.report.Reception.the-variants as reception
 use Rattle.job.specs.declared.report.Sending.{Sending}
-use Rattle.job.specs.declared.report.Sending.the-variants as sending
 use Rattle.job.specs.declared.report.Session.{Session}
-use Rattle.job.specs.declared.report.Session.the-variants as session
 use Rattle.job.specs.declared.report.Reset.{Reset}
-use Rattle.job.specs.declared.report.Reset.the-variants as reset
 use Rattle.report.specs.declared.report.Report.{Report}
+use Rattle.report.specs.Told.{receptionCase, sendingCase, sendingValue, sessionCase, sessionValue, resetCase}
 use Rattle.link.specs.declared.calls.Answer.{Answer}
 use Rattle.link.specs.declared.calls.Answer.the-variants as answer
 use Rattle.link.specs.declared.calls.RunAnswer.{RunAnswer}
@@ -37,38 +33,18 @@ mixed sum n = (((sum + sum) % 2 ^ 64 + sum) % 2 ^ 64 + n) % 2 ^ 64
 abbrev pub refusedNumber : Refusal → ℕ
 refusedNumber k = 1000000 + numberOf k
 
+-- Each case by its number, and eight times its value.
 abbrev pub receptionNumber : Reception → ℕ
-receptionNumber reception.Nothing = 0
-receptionNumber reception.Skipped = 1
-receptionNumber reception.BadLength = 2
-receptionNumber reception.Frame = 3
-receptionNumber reception.Reserved = 4
-receptionNumber reception.BadSum = 5
-receptionNumber reception.Abort = 6
-receptionNumber reception.StrayResponse = 7
+receptionNumber r = receptionCase r
 
 abbrev pub sendingNumber : Sending → ℕ
-sendingNumber sending.Nothing = 0
-sendingNumber sending.Stray = 1
-sendingNumber sending.Due = 2
-sendingNumber (sending.Copy n) = 3 + 8 * n
-sendingNumber (sending.BackingOff t) = 4 + 8 * t .0
-sendingNumber (sending.Acknowledged n) = 5 + 8 * n
-sendingNumber (sending.Failed n) = 6 + 8 * n
-sendingNumber sending.Abandoned = 7
+sendingNumber s = sendingCase s + 8 * sendingValue s
 
 abbrev pub sessionNumber : Session → ℕ
-sessionNumber session.Nothing = 0
-sessionNumber session.Waiting = 1
-sessionNumber (session.Response n) = 2 + 8 * n
-sessionNumber (session.NoResponse n) = 3 + 8 * n
-sessionNumber (session.NotSent n) = 4 + 8 * n
-sessionNumber session.Abandoned = 5
+sessionNumber s = sessionCase s + 8 * sessionValue s
 
 abbrev pub resetNumber : Reset → ℕ
-resetNumber reset.Nothing = 0
-resetNumber reset.Sums = 1
-resetNumber reset.Delivery = 2
+resetNumber r = resetCase r
 
 abbrev pub reportNumber : Report → ℕ
 reportNumber r =

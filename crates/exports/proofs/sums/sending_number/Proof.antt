@@ -65,13 +65,13 @@ enum-told-4 : tie.Need-enum-told-4
 enum-told-4 c = search needs
 
 returns : tie.Need-returns
-returns c = search needs
+returns c = simp (c .enum-told .given .1)
 
 returns-2 : tie.Need-returns-2
-returns-2 c = search needs
+returns-2 c = simp (c .enum-told2 .given .1)
 
 returns-3 : tie.Need-returns-3
-returns-3 c = search needs
+returns-3 c = simp (c .enum-told3 .given .1)
 
 returns-4 : tie.Need-returns-4
 returns-4 c = simp (c .before .sending .given .1)
@@ -86,7 +86,7 @@ returns-7 : tie.Need-returns-7
 returns-7 c = simp (c .before .sending4 .given .1)
 
 returns-8 : tie.Need-returns-8
-returns-8 c = search needs
+returns-8 c = simp (c .enum-told4 .given .1)
 
 pub sending-number-spec : {M : Type 1} → statement M
 sending-number-spec =

@@ -50,10 +50,10 @@ enum-told-3 : tie.Need-enum-told-3
 enum-told-3 c = search needs
 
 returns : tie.Need-returns
-returns c = search needs
+returns c = simp (c .enum-told .given .1)
 
 returns-2 : tie.Need-returns-2
-returns-2 c = search needs
+returns-2 c = simp (c .enum-told2 .given .1)
 
 returns-3 : tie.Need-returns-3
 returns-3 c = simp (c .before .session .given .1)
@@ -65,7 +65,7 @@ returns-5 : tie.Need-returns-5
 returns-5 c = simp (c .before .session3 .given .1)
 
 returns-6 : tie.Need-returns-6
-returns-6 c = search needs
+returns-6 c = simp (c .enum-told3 .given .1)
 
 pub session-number-spec : {M : Type 1} → statement M
 session-number-spec =
