@@ -8,3 +8,4 @@ pub use calls::Answered;
 pub use calls::Ran;
 pub use calls::RunAnswer;
 pub use state::Link;
+pub use state::Timings;
