@@ -44,7 +44,8 @@ use Rattle.history.specs.Received.{feed, takenBy, ifTaken, received}
 use Rattle.history.specs.Whole.{Whole, short, full, fromFirst, clockIn, ComesWhole, dueCopy, Ending, EndsBy, AsRead}
 use Rattle.history.proofs.Reception.{pick-by, pick-ok}
 use Rattle.history.proofs.Histories.{accepted-is}
-use Rattle.history.proofs.Ranges.{keep-length, body-254}
+use Rattle.reception.proofs.Theorems.{keep-length}
+use Rattle.history.proofs.Ranges.{body-254}
 use Rattle.history.proofs.Section11.{answerTo, end-reply, byte-at, checked}
 use Rattle.history.proofs.Bodies.{partialOf, begun-is, more-is, kept-more}
 use Rattle.history.proofs.Runs.{quiet-by-report, run-bytes, run-feeds, taken-is, SameSender, quiet-sender}

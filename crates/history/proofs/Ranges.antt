@@ -7,13 +7,14 @@ use mathlib.Core.List.{List, []}
 use native.Mathlib.Omega.{arith}
 use lib.Bits.{xor-lt}
 use lib.Dec.{ltb, eqb}
-use lib.ListN.{length, take, length-set}
+use lib.ListN.{length, take}
 use borrow.Author.Tests.{ltb-true, ltb-false}
 use Rattle.frame.specs.Frame.{frameOf}
 use Rattle.frame.proofs.Over.{over-length}
 use Rattle.frame.proofs.Theorems.{frame-bounds}
 use Rattle.job.specs.Rules.{Rules, Cause, told, time, base, backOffs}
-use Rattle.reception.specs.Hearing.{heardByte, heardTick, hunted, keep, isHunting}
+use Rattle.reception.specs.Hearing.{heardByte, heardTick, hunted, isHunting}
+use Rattle.reception.proofs.Theorems.{keep-length}
 use Rattle.job.specs.Job.{start, lose}
 use Rattle.job.specs.Ticks.{onTick, onAbort}
 use Rattle.sending.specs.Events.{onSingle, onEnd, release, awaits, act}
@@ -129,16 +130,6 @@ record Sizes (l : Link) : Type 0 where
   size : l .core .size ≤ 257
   body : length (l .body) ≡ 254
   frame : length (l .frame) ≡ 257
-
-pub keep-length : (e : Event) (b : ℕ) (body : List ℕ) → length (keep e b body) ≡ length body
-keep-length Inside b body = refl
-keep-length (Kept at) b body = length-set body at b
-keep-length Skipped b body = refl
-keep-length (Alone s) b body = refl
-keep-length (Ended e) b body = refl
-keep-length TickHunting b body = refl
-keep-length TickInside b body = refl
-keep-length Aborted b body = refl
 
 sizes-keeps : (R : Rules) → Keeps R Any Sizes
 unfolding byteOut tickOut openOut noBody noFrame

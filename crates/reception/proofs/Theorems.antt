@@ -4,13 +4,14 @@
 --     hunting-determined                                            whether it hunts
 --     keep-determined                                               the body of 254 bytes after a byte
 -- Assumes nothing.
-use mathlib.Core.Path.{_≡_}
+use mathlib.Core.Path.{_≡_, refl}
 use mathlib.Core.Bool.{Bool}
 use mathlib.Core.List.{List}
 use Prim.Native.Nat.{ℕ}
-use lib.ListN.{length}
+use lib.ListN.{length, length-set}
 use Rattle.frame.proofs.Theorems.{fixed}
 use Rattle.reception.specs.declared.hearing.Event.{Event}
+use Rattle.reception.specs.declared.hearing.Event.the-variants.{Inside, Kept, Skipped, Alone, Ended, TickHunting, TickInside, Aborted}
 use Rattle.reception.specs.declared.hearing.Heard.{Heard}
 use Rattle.reception.specs.declared.hearing.Hearing.{Hearing}
 use Rattle.reception.specs.declared.hearing.Partial.{Partial}
@@ -37,3 +38,14 @@ hunting-determined h x y = fixed x y
 pub keep-determined : (e : Event) (b : ℕ) (body : List ℕ) {r q : List ℕ} → length body ≡ 254
     → (length body ≡ 254 → r ≡ keep e b body) → (length body ≡ 254 → q ≡ keep e b body) → r ≡ q
 keep-determined e b body n x y = fixed (x n) (y n)
+
+-- Keeping a byte leaves the body as long as it was.
+pub keep-length : (e : Event) (b : ℕ) (body : List ℕ) → length (keep e b body) ≡ length body
+keep-length Inside b body = refl
+keep-length (Kept at) b body = length-set body at b
+keep-length Skipped b body = refl
+keep-length (Alone s) b body = refl
+keep-length (Ended e) b body = refl
+keep-length TickHunting b body = refl
+keep-length TickInside b body = refl
+keep-length Aborted b body = refl
