@@ -10,13 +10,12 @@ use Rattle.frame.specs.Pick.{pick}
 use Rattle.frame.specs.Frame.{frameOf}
 use Rattle.job.specs.Rules.{base}
 use Rattle.link.specs.State.{freshLink}
-use Rattle.link.specs.Step.{Out, Taken, byteOut, tickOut, openOut, runOut}
+use Rattle.link.specs.Step.{Out, byteOut, tickOut, openOut, runOut}
 use Rattle.step.specs.Checks.{checks, sessionChecks}
 use Rattle.step.specs.declared.checks.Checked.{Checked}
 use Rattle.step.specs.declared.checks.Checked.the-variants.{Passes}
 use Rattle.link.specs.Calls.{answered, ran, left}
 use Rattle.link.specs.declared.state.Link.{Link}
-use Rattle.link.specs.declared.calls.Answered.{Answered}
 use Rattle.link.specs.declared.calls.Ran.{Ran}
 use Rattle.job.specs.declared.job.Asking.the-variants.{Asks}
 use Rattle.exports.specs.Numbers.{mixed, answerNumber, runNumber, takenBy}

@@ -31,7 +31,6 @@ use Rattle.job.specs.declared.job.Job.the-variants.{Idle, Due, Waiting, Backing
 use Rattle.job.specs.declared.report.Sending.the-variants as sending
 use Rattle.job.specs.declared.report.Session.the-variants as session
 use Rattle.report.specs.declared.report.Reception.{Reception}
-use Rattle.report.specs.declared.report.Reception.the-variants as reception
 use Rattle.report.specs.declared.report.Reply.{Reply}
 use Rattle.report.specs.declared.report.Reply.the-variants as reply
 use Rattle.report.specs.declared.report.Said.{Said}

@@ -31,14 +31,12 @@ use Rattle.job.specs.declared.job.Asking.{Asking}
 use Rattle.job.specs.declared.job.Asking.the-variants.{Plain, Asks}
 use Rattle.job.specs.declared.job.Job.{Job}
 use Rattle.job.specs.declared.job.Job.the-variants.{Idle, Due, Waiting, BackingOff, Awaiting}
-use Rattle.job.specs.declared.report.Sending.{Sending}
 use Rattle.job.specs.declared.report.Sending.the-variants as sending
-use Rattle.job.specs.declared.report.Session.{Session}
 use Rattle.job.specs.declared.report.Session.the-variants as session
 use Rattle.report.specs.declared.report.Reply.{Reply}
 use Rattle.link.specs.declared.state.Link.{Link}
 use Rattle.history.specs.Calls.{What, byte, bytes, tick, send, session as sessionCall, restart, Call, checksOf, outOf, doneBy}
-use Rattle.history.specs.Cut.{frames, nak}
+use Rattle.history.specs.Cut.{nak}
 use Rattle.history.specs.Bound.{Fits}
 use Rattle.history.specs.Watch.{copiesIn, Says, none, says, sendVerdict, sessionVerdict, verdictIn, verdictOf, Watch, going, gone, ended, add, onward, watchTaken, watchDone, watch, outsTaken, outsDone, outs, count, verdictsOf, abandonsIn, abandonsOf, linesOf, verdictsBy, abandonsBy}
 use Rattle.history.specs.Demand3.{Spent}

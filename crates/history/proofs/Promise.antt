@@ -1,8 +1,8 @@
 -- What the link's calls promise is what a history performs: the links handed back, the answers, and every lent byte.
 -- Assumes nothing.
 use Prim.Native.Nat.{ℕ}
-use mathlib.Core.Path.{_≡_, refl, ap, sym, _∙_, subst}
-use mathlib.Core.List.{List, [], _∷_}
+use mathlib.Core.Path.{_≡_, refl, ap, _∙_, subst}
+use mathlib.Core.List.{List}
 use lib.ListN.{length}
 use Rattle.frame.specs.Bytes.{over}
 use Rattle.frame.specs.Frame.{frameOf}
@@ -17,9 +17,9 @@ use Rattle.link.specs.Calls.{answered as answeredBy, ran as ranBy, left, Call a
 use Rattle.link.specs.declared.calls.Answered.{Answered}
 use Rattle.link.specs.declared.calls.Ran.{Ran}
 use Rattle.link.specs.declared.state.Link.{Link}
-use Rattle.history.specs.Calls.{What, byte, bytes, tick, send, session, restart, Call, checksOf, outOf, Done, doneBy, perform}
+use Rattle.history.specs.Calls.{What, byte, bytes, tick, send, session, restart, Done, doneBy, perform}
 use Rattle.history.specs.History.{next, run, after}
-use Rattle.history.specs.Played.{Told, answered, ran, Played, played, Promised, byteCall, bytesCall, tickCall, sendCall, sessionCall, restartCall, Plays, none, then, callOf, callsOf, answerOf, runAnswerOf, lineOf, upOf, Tied, AllTied}
+use Rattle.history.specs.Played.{answered, ran, Played, played, Promised, byteCall, bytesCall, tickCall, sendCall, sessionCall, restartCall, Plays, none, then, callOf, callsOf, answerOf, runAnswerOf, lineOf, upOf, Tied, AllTied}
 
 next-is : (c : Checked) (o : Out) (l : Link) → (answeredBy c o l) .link ≡ next l (doneBy c o)
 next-is Passes o l = refl

@@ -1,11 +1,10 @@
 -- Demand 3 as one sentence, and what its definitions come to on short histories.
 -- Assumes nothing.
 use Prim.Native.Nat.{ℕ, _≤_}
-use mathlib.Core.Path.{_≡_, refl, ap, subst, _∙_}
+use mathlib.Core.Path.{_≡_, refl}
 use mathlib.Core.Bool.{true, false, false≢true}
 use mathlib.Core.List.{List, [], _∷_}
 use lib.Dec.{eqb}
-use lib.ListN.{length, replicate}
 use Rattle.frame.specs.Pick.{pick}
 use Rattle.frame.specs.Bytes.{xorAll}
 use Rattle.frame.specs.Frame.{frameOf}
@@ -17,7 +16,7 @@ use Rattle.link.specs.Step.{Out, byteOut, openOut, restartOut}
 use Rattle.history.specs.Calls.{What, byte, send, session, restart, Call, outOf, took, perform}
 use Rattle.history.specs.History.{after, ticksIn, restartsIn}
 use Rattle.history.specs.Cut.{frames, singles, IsAnswer, ack, nak}
-use Rattle.history.specs.Watch.{Verdict, acknowledged, failed, response, noResponse, notSent, copiesIn, isOwn, Watch, going, gone, ended, watched, verdictsFrom, abandonsFrom, linesFrom, verdictsBy}
+use Rattle.history.specs.Watch.{Verdict, acknowledged, failed, response, noResponse, notSent, isOwn, Watch, going, gone, ended, watched, verdictsFrom, abandonsFrom, linesFrom, verdictsBy}
 use Rattle.history.specs.Demand3.{Ended, Kept, Spent, IsOver, NotGone, Demand3, HasVerdict, sendBound, sessionBound}
 use Rattle.history.proofs.Demand3.{base-send, base-session}
 

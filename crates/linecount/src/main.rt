@@ -2,7 +2,6 @@
 use libc::STDERR_FILENO;
 use libc::STDIN_FILENO;
 use libc::STDOUT_FILENO;
-use tally::Counts;
 use tally::Tally;
 ghost use Rattle.linecount.specs.Reads.{Within};
 ghost use Prim.Native.Nat.{_≤_};

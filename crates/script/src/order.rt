@@ -1,5 +1,4 @@
 // A line of a script: its words, the numbers and the bytes that they spell.
-use crate::verb::Shape;
 use crate::verb::Verb;
 use crate::verb::shape_of;
 use crate::verb::verb_of;

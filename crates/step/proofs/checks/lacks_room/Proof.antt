@@ -1,7 +1,6 @@
 -- `step::checks::lacks_room` meets its contract.
 -- Assumes nothing.
 use borrow.Author.Tests.{lt-ltb, le-ltb}
-use mathlib.Core.Path.{sym}
 use Rattle.step.proofs.checks.lacks_room.Statement.{statement}
 use Rattle.step.proofs.checks.lacks_room.Tie as tie
 

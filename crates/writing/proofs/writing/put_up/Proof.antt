@@ -1,7 +1,6 @@
 -- `writing::writing::put_up` meets its contract.
 -- Assumes nothing.
 use mathlib.Core.Path.{refl}
-use native.Mathlib.Omega.{arith}
 use borrow.Author.Tests.{lt-ltb, le-ltb}
 use denote.Ref.{now}
 use Rattle.writing.proofs.Puts.{put-front}
