@@ -70,6 +70,13 @@ starts : (xs : List ℕ) → Whole xs → (getD xs 0 0 ≡ 1) × (1 < length xs)
 starts xs (short n e k) = (ap (λ (s : List ℕ). getD s 0 0) e, let v : length xs ≡ 2 = ap length e in omega arith)
 starts xs (full n s e k m d) = (ap (λ (s : List ℕ). getD s 0 0) e, let v : length xs ≡ suc (suc (length s)) = ap length e in omega arith)
 
+-- 01 and any Length below 3 are whole, and so are 01, any other Length and as many bytes
+pub short-is-whole : (len : ℕ) → len < 3 → Whole (1 ∷ len ∷ [])
+short-is-whole len k = short len refl k
+
+pub full-is-whole : (len : ℕ) (rest : List ℕ) → 3 ≤ len → len ≤ 255 → length rest ≡ len → Whole (1 ∷ len ∷ rest)
+full-is-whole len rest k m n = full len rest refl k m n
+
 -- every frame is whole, and so is what the frame reader accepts
 pub frame-is-whole : (kind command : ℕ) (ps : List ℕ) → length ps ≤ 252 → Whole (frameOf kind command ps)
 unfolding frameOf

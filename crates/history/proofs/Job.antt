@@ -30,7 +30,7 @@ use Rattle.job.specs.declared.report.Sending.{Sending}
 use Rattle.job.specs.declared.report.Sending.the-variants as sending
 use Rattle.job.specs.declared.report.Session.the-variants as session
 use Rattle.job.specs.declared.report.Session.{Session}
-use Rattle.history.specs.Watch.{Verdict, copiesIn, isFailure, isOwn, Says, none, says, orElse, unlessWaiting, sendVerdict, sessionVerdict, verdictIn}
+use Rattle.history.specs.Watch.{Verdict, copiesIn, isFailure, isOwn, Says, none, says, both, together, beside, sendVerdict, sessionVerdict, verdictIn}
 use Rattle.history.specs.Bound.{Fits, tail, extra}
 use Rattle.history.proofs.Reception.{pick-by, room, Within, WithinIf, Stays, Passes, Aborts, Alones, Tells, ticksAt}
 
@@ -42,7 +42,7 @@ tail-law W g (suc (suc (suc zero))) a b = omega arith
 tail-law W g (suc (suc (suc (suc n)))) a b = absurd (omega arith)
 
 -- neither part says a verdict
-beside-none : (e : Session) → unlessWaiting e none ≡ none
+beside-none : (e : Session) → beside e none ≡ none
 beside-none session.Nothing = refl
 beside-none session.Waiting = refl
 beside-none (session.Response n) = refl
@@ -51,8 +51,8 @@ beside-none (session.NotSent n) = refl
 beside-none session.Abandoned = refl
 
 pub no-verdict : (a : Asking) (s : Sending) (e : Session) → sendVerdict s ≡ none → sessionVerdict e ≡ none → verdictIn a s e ≡ none
-no-verdict Plain s e p q = ap₂ orElse p q
-no-verdict (Asks c) s e p q = ap₂ (λ (x y : Says). orElse x (unlessWaiting e y)) q p ∙ beside-none e
+no-verdict Plain s e p q = ap₂ together p q
+no-verdict (Asks c) s e p q = ap₂ (λ (x y : Says). together x (beside e y)) q p ∙ beside-none e
 
 -- an open send or session, with a held frame of so many bytes
 pub data Good (R : Rules) (size : ℕ) (h : Hearing) : Asking → Job → Type 0 where
@@ -94,6 +94,7 @@ pub record Over (L n t : ℕ) (v : Verdict) (a : Asking) (job : Job) (copy : Boo
 abbrev pub Claim : Rules → (ℕ → ℕ) → ℕ → Hearing → ℕ → ℕ → ℕ → Says → Asking → Job → Bool → Type 0
 Claim R g size h L n t none a job copy = Going R g size h L n t a job copy
 Claim R g size h L n t (says v) a job copy = Over L n t v a job copy
+Claim R g size h L n t (both v w) a job copy = ⊥
 
 pub good-few : {R : Rules} {size : ℕ} {h : Hearing} {a : Asking} {job : Job} → Good R size h a job → copiesOf job ≤ 4
 good-few (due n w) = omega arith

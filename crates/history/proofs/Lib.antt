@@ -1,3 +1,4 @@
+pub mod Counts
 pub mod Mix
 pub mod Reception
 pub mod Job

@@ -37,7 +37,7 @@ use Rattle.report.specs.declared.report.Said.{Said}
 use Rattle.report.specs.declared.report.Sums.{Sums}
 use Rattle.link.specs.declared.state.Link.{Link}
 use Rattle.history.specs.Cut.{ack, nak}
-use Rattle.history.specs.Watch.{Verdict, copiesIn, isFailure, isOwn, Says, none, says, verdictIn, verdictOf}
+use Rattle.history.specs.Watch.{Verdict, copiesIn, isFailure, isOwn, Says, none, says, both, verdictIn, verdictOf}
 use Rattle.history.specs.Bound.{Fits}
 use Rattle.history.proofs.Mix.{Mix, end as finish, one, copy, mix-append}
 use Rattle.history.proofs.Reception.{pick-by, pick-ok, InTime, Steps, ticksAt, byte-steps, tick-steps}
@@ -121,6 +121,7 @@ pub record Ends (f : List ℕ) (a : Asking) (L n t : ℕ) (v : Verdict) (line : 
 abbrev pub Outcome : Rules → (ℕ → ℕ) → List ℕ → Asking → ℕ → ℕ → ℕ → Says → Out → Type 0
 Outcome R g f a L n t none o = Goes R g f a L n t o
 Outcome R g f a L n t (says v) o = Ends f a L n t v (o .line) × (o .link .core .job ≡ Idle)
+Outcome R g f a L n t (both v w) o = ⊥
 
 pub reply-mix : (f : List ℕ) (r : Reply) → Mix f 0 (replyBytes r)
 reply-mix f reply.Silent = finish
@@ -132,7 +133,7 @@ copy-mix f l e true = subst (λ (z : List ℕ). Mix f 1 z) (append-nil f ∙ sym
 copy-mix f l e false = finish
 
 module _ (R : Rules) (g : ℕ → ℕ) (fit : Fits R g) (f : List ℕ) (a : Asking) where
-  -- what the job's act comes to on the line, for either Says
+  -- what the job's act comes to on the line, for any Says
   lift : (s : Says) (body frame : List ℕ) (h : Hearing) (size : ℕ) (q : Said) (z : Sums) (x : Act) (L n t : ℕ) → InTime h → take size frame ≡ f
       → Claim R g size h L n t s a (x .job) (x .copy) → Outcome R g f a L n t s (out body frame (decision h size (outcome q z x)))
   lift none body frame h size q z x L n t i e c =
@@ -155,6 +156,7 @@ module _ (R : Rules) (g : ℕ → ℕ) (fit : Fits R g) (f : List ℕ) (a : Aski
     },
     c .idle,
   )
+  lift (both v w) body frame h size q z x L n t i e c = absurd c
 
   pub lifted : (body frame : List ℕ) (h : Hearing) (size : ℕ) (q : Said) (z : Sums) (x : Act) (L n t : ℕ) → InTime h → take size frame ≡ f
       → Claim R g size h L n t (verdictIn a (x .sending) (x .session)) a (x .job) (x .copy)
@@ -199,6 +201,7 @@ module _ (R : Rules) (g : ℕ → ℕ) (fit : Fits R g) (f : List ℕ) (a : Aski
   weaker none L L′ n n′ o h e c = record { sends = c .sends; less = omega (arith, c .less); more = c .more; mix = c .mix; count = omega (arith, c .count) }
   weaker (says v) L L′ n n′ o h e c =
       (record { soon = omega (arith, c .0 .soon); own = c .0 .own; more = c .0 .more; mix = c .0 .mix; count = omega (arith, c .0 .count); few = c .0 .few; four = c .0 .four }, c .1)
+  weaker (both v w) L L′ n n′ o h e c = absurd c
 
   still-none : (j : Job) → verdictIn a ((still j) .sending) ((still j) .session) ≡ none
   still-none j = no-verdict a sending.Nothing session.Nothing refl refl

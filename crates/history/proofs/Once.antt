@@ -38,7 +38,7 @@ use Rattle.link.specs.declared.state.Link.{Link}
 use Rattle.history.specs.Calls.{What, byte, bytes, tick, send, session as sessionCall, restart, Call, checksOf, outOf, doneBy}
 use Rattle.history.specs.Cut.{nak}
 use Rattle.history.specs.Bound.{Fits}
-use Rattle.history.specs.Watch.{copiesIn, Says, none, says, sendVerdict, sessionVerdict, verdictIn, verdictOf, Watch, going, gone, ended, add, onward, watchTaken, watchDone, watch, outsTaken, outsDone, outs, count, verdictsOf, abandonsIn, abandonsOf, linesOf, verdictsBy, abandonsBy}
+use Rattle.history.specs.Watch.{copiesIn, Says, none, says, both, sendVerdict, sessionVerdict, verdictIn, verdictOf, Watch, going, gone, ended, add, onward, watchTaken, watchDone, watch, outsTaken, outsDone, outs, count, verdictsOf, abandonsIn, abandonsOf, linesOf, verdictsBy, abandonsBy}
 use Rattle.history.specs.Demand3.{Spent}
 use Rattle.history.proofs.Mix.{Mix, end as finish, one, mix-append, IsFrame, mix-frames}
 use Rattle.history.proofs.Reception.{pick-ok}
@@ -347,6 +347,7 @@ module _ (R : Rules) (g : ℕ → ℕ) (fit : Fits R g) (f : List ℕ) (a : Aski
         said = ap₂ (λ (x : Says) (m : ℕ). count x + m) e (r .verdicts);
         abandoned = ap₂ (λ (m k : ℕ). m + k) b (r .abandons);
       }
+  onward-sofar (both v u) L n t o w os e b c p q = absurd c
 
   restarted : (l : Link) (os : List Out) → Sends R f a l → Resting f a os → Sofar f a (copiesOf (l .core .job)) gone (restartOut l ∷ os)
   restarted l os d r =

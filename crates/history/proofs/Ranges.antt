@@ -38,7 +38,7 @@ use Rattle.job.specs.declared.job.Job.the-variants.{Idle, Due, Waiting, Backing
 use Rattle.link.specs.declared.state.Link.{Link}
 use Rattle.history.specs.Calls.{Call}
 use Rattle.history.specs.History.{after}
-use Rattle.history.specs.Watch.{Says, none, says, verdictOf}
+use Rattle.history.specs.Watch.{Says, none, says, both, verdictOf}
 use Rattle.history.specs.Bound.{Fits}
 use Rattle.history.specs.Ranges.{ComeAll, IsByte, HearingIn, IsInside, JobIn, InRange}
 use Rattle.history.proofs.Reception.{pick-by, pick-ok, Within, InTime, byte-steps, tick-steps}
@@ -164,6 +164,7 @@ outcome-fine : (R : Rules) (g : ℕ → ℕ) (f : List ℕ) (a : Asking) (s : Sa
     → Fine R (o .link .core .size) (o .link .core .hearing) (o .link .core .job)
 outcome-fine R g f a none L n t o c = active a (c .sends .good)
 outcome-fine R g f a (says v) L n t o c = idle (c .1)
+outcome-fine R g f a (both v w) L n t o c = absurd c
 
 module _ (R : Rules) (g : ℕ → ℕ) (fit : Fits R g) where
   sends : (l : Link) (a : Asking) → InTime (l .core .hearing) → Good R (l .core .size) (l .core .hearing) a (l .core .job) → Sends R (take (l .core .size) (l .frame)) a l

@@ -1,23 +1,21 @@
--- Demand 3 as one sentence, and what its definitions come to on short histories.
+-- Demand 3 as one sentence.
 -- Assumes nothing.
 use Prim.Native.Nat.{ℕ, _≤_}
 use mathlib.Core.Path.{_≡_, refl}
-use mathlib.Core.Bool.{true, false, false≢true}
-use mathlib.Core.List.{List, [], _∷_}
-use lib.Dec.{eqb}
-use Rattle.frame.specs.Pick.{pick}
-use Rattle.frame.specs.Bytes.{xorAll}
+use mathlib.Core.List.{List}
+use native.Mathlib.Omega.{arith}
+use lib.ListN.{length}
 use Rattle.frame.specs.Frame.{frameOf}
-use Rattle.job.specs.Rules.{Rules, base}
+use Rattle.job.specs.Rules.{Rules, Cause, told, time, base}
 use Rattle.job.specs.declared.job.Asking.{Asking}
 use Rattle.job.specs.declared.job.Asking.the-variants.{Plain, Asks}
-use Rattle.link.specs.State.{freshLink, noBody, noFrame}
-use Rattle.link.specs.Step.{Out, byteOut, openOut, restartOut}
-use Rattle.history.specs.Calls.{What, byte, send, session, restart, Call, outOf, took, perform}
+use Rattle.link.specs.Step.{Out}
+use Rattle.history.specs.Calls.{tick, send, session, restart, Call, took, perform}
 use Rattle.history.specs.History.{after, ticksIn, restartsIn}
-use Rattle.history.specs.Cut.{frames, singles, IsAnswer, ack, nak}
-use Rattle.history.specs.Watch.{Verdict, acknowledged, failed, response, noResponse, notSent, isOwn, Watch, going, gone, ended, watched, verdictsFrom, abandonsFrom, linesFrom, verdictsBy}
-use Rattle.history.specs.Demand3.{Ended, Kept, Spent, IsOver, NotGone, Demand3, HasVerdict, sendBound, sessionBound}
+use Rattle.history.specs.Cut.{frames}
+use Rattle.history.specs.Watch.{failed, notSent, Watch, going, gone, ended, watched, verdictsFrom, linesFrom, verdictsBy}
+use Rattle.history.specs.Bound.{Fits}
+use Rattle.history.specs.Demand3.{Open, Ended, Kept, Spent, IsOver, NotGone, Demand3, HasVerdict, sendBound, sessionBound}
 use Rattle.history.proofs.Demand3.{base-send, base-session}
 
 -- ---- the sentence
@@ -54,37 +52,18 @@ failed-four a f bound n t l e = e .four refl
 pub not-sent-four : (a : Asking) (f : List ℕ) (bound n t : ℕ) (l : List ℕ) → Ended a f bound (notSent n) t l → n ≡ 4
 not-sent-four a f bound n t l e = e .four refl
 
--- ---- computed: the definitions count what they are named for
-abbrev lent : What → Call
-lent w = record { what = w; line = 258; up = 254 }
+-- At most four copies in all and at most one verdict, whatever the watch comes to; at most four while it is open.
+pub four-in-all : (R : Rules) (a : Asking) (f : List ℕ) (bound : ℕ) (o : Out) (h : List Call) → Demand3 R a f bound o h
+    → (length (frames (linesFrom R o h)) ≤ 4) × (verdictsFrom R a o h ≤ 1)
+four-in-all R a f bound o h d = (d .few, d .once)
 
-abbrev sent : Out
-sent = outOf base freshLink (send 0 7 [])
+pub four-while-open : (f : List ℕ) (bound t : ℕ) (l : List ℕ) → Open f bound t l → length (frames l) ≤ 4
+four-while-open f bound t l e = e .few
 
--- one verdict of a send that is acknowledged
-pub one-verdict : verdictsFrom base Plain sent (lent (byte 0x06) ∷ []) ≡ 1
-unfolding byteOut openOut frameOf xorAll noBody noFrame
-one-verdict = refl
+-- Rules whose back-off by 15 or 18 is one longer than by time fit, with the shorter for g.
+abbrev toldLonger : Cause → ℕ → ℕ
+toldLonger told n = 1
+toldLonger time n = 0
 
--- abandoned said once of a send that is restarted, and twice restarted
-pub one-abandoned : abandonsFrom base sent (lent restart ∷ lent restart ∷ []) ≡ 1
-unfolding openOut restartOut frameOf xorAll noBody noFrame
-one-abandoned = refl
-
--- the cutting finds single bytes and frames in their order
-pub cut-finds : (frames (0x06 ∷ 0x01 ∷ 0x03 ∷ 0x00 ∷ 0x07 ∷ 0xFB ∷ 0x15 ∷ []) ≡ (0x01 ∷ 0x03 ∷ 0x00 ∷ 0x07 ∷ 0xFB ∷ []) ∷ [])
-    × (singles (0x06 ∷ 0x01 ∷ 0x03 ∷ 0x00 ∷ 0x07 ∷ 0xFB ∷ 0x15 ∷ []) ≡ 0x06 ∷ 0x15 ∷ [])
-cut-finds = (refl, refl)
-
--- an answer is 06 or 15
-pub answer-either : (b : ℕ) → IsAnswer b → pick (eqb b 0x06) true (eqb b 0x15) ≡ true
-answer-either b ack = refl
-answer-either b nak = refl
-
--- each verdict is a send's or a session's, and not both
-pub own-apart : (c : ℕ) (v : Verdict) → isOwn Plain v ≡ true → isOwn (Asks c) v ≡ false
-own-apart c (acknowledged n) e = refl
-own-apart c (failed n) e = refl
-own-apart c (response n) e = absurd (false≢true e)
-own-apart c (noResponse n) e = absurd (false≢true e)
-own-apart c (notSent n) e = absurd (false≢true e)
+pub one-longer-fits : Fits (record { wait = λ size. 1; back = toldLonger }) (λ n. 0)
+one-longer-fits = record { wait = λ size. omega arith; late = λ n. omega arith; early = λ n. omega arith }

@@ -22,7 +22,7 @@ use Rattle.history.specs.Calls.{What, byte, bytes, tick, send, session, 
 use Rattle.history.specs.History.{next, ticksOf, restartsOf, accepted, ticksIn, restartsIn}
 use Rattle.history.specs.Cut.{frames}
 use Rattle.history.specs.Bound.{Fits}
-use Rattle.history.specs.Watch.{copiesIn, Says, none, says, verdictOf, Watch, going, gone, ended, add, onward, watchTaken, watchDone, watch, watched}
+use Rattle.history.specs.Watch.{copiesIn, Says, none, says, both, verdictOf, Watch, going, gone, ended, add, onward, watchTaken, watchDone, watch, watched}
 use Rattle.history.specs.Demand3.{Kept, IsOver, NotGone}
 use Rattle.history.proofs.Mix.{Mix, end as finish, mix-append, IsFrame, mix-frames}
 use Rattle.history.proofs.Job.{Good, due, waits, backs, awaiting, left-pos, good-few}
@@ -81,6 +81,7 @@ module _ (R : Rules) (g : ℕ → ℕ) (fit : Fits R g) (f : List ℕ) (a : Aski
       → Watched f a L n (onward s t (o .line) w)
   onward-ok none L n t o w c k = add-ok L n t o w c (k (c .sends))
   onward-ok (says v) L n t o w c k = c .0
+  onward-ok (both v u) L n t o w c k = absurd c
 
   taken-ok : (w : What) (l : Link) (k : Link → Watch) → Sends R f a l → checksOf l w ≡ Passes → ((z : Link) → Sends R f a z → OnWatch z (k z))
       → OnWatch l (watchTaken a w (outOf R l w) (k ((outOf R l w) .link)))
@@ -125,6 +126,7 @@ add-counts t n l (ended v u m) e = tt
 pub onward-counts : (s : Says) (t n : ℕ) (l : List ℕ) (w : Watch) → Counts n w → Counts (t + n) (onward s t l w)
 onward-counts none t n l w e = add-counts t n l w e
 onward-counts (says v) t n l w e = tt
+onward-counts (both v u) t n l w e = tt
 
 taken-counts : (a : Asking) (w : What) (o : Out) (n : ℕ) (k : Watch) → Counts n k → Counts (ticksOf w + n) (watchTaken a w o k)
 taken-counts a (byte b) o n k e = onward-counts (verdictOf a o) 0 n (o .line) k e
@@ -157,6 +159,7 @@ onward-there none t l (going u m) e = tt
 onward-there none t l gone e = e
 onward-there none t l (ended v u m) e = tt
 onward-there (says v) t l w e = tt
+onward-there (both v u) t l w e = tt
 
 taken-there : (a : Asking) (w : What) (o : Out) (k : Watch) → restartsOf w ≡ 0 → NotGone k → NotGone (watchTaken a w o k)
 taken-there a (byte b) o k e i = onward-there (verdictOf a o) 0 (o .line) k i

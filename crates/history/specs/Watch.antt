@@ -49,10 +49,11 @@ isOwn (Asks c) (response n) = true
 isOwn (Asks c) (noResponse n) = true
 isOwn (Asks c) (notSent n) = true
 
--- what a report says of the open send or session: no verdict, or this one
+-- what a report says of the open send or session: no verdict, this one, or two at once
 pub data Says : Type 0 where
   none : Says
   says : Verdict → Says
+  both : Verdict → Verdict → Says
 
 -- a send's verdict stands in the sending part
 abbrev pub sendVerdict : Sending → Says
@@ -74,24 +75,27 @@ sessionVerdict (session.NoResponse n) = says (noResponse n)
 sessionVerdict (session.NotSent n) = says (notSent n)
 sessionVerdict session.Abandoned = none
 
--- the first of two that is a verdict
-abbrev pub orElse : Says → Says → Says
-orElse none x = x
-orElse (says v) x = says v
+-- what two parts say together
+abbrev pub together : Says → Says → Says
+together none x = x
+together (says v) none = says v
+together (says v) (says w) = both v w
+together (says v) (both w u) = both v w
+together (both v w) x = both v w
 
--- what the sending part says beside this session part: with the ACK of a session it is waiting
-abbrev pub unlessWaiting : Session → Says → Says
-unlessWaiting session.Nothing x = x
-unlessWaiting session.Waiting x = none
-unlessWaiting (session.Response n) x = x
-unlessWaiting (session.NoResponse n) x = x
-unlessWaiting (session.NotSent n) x = x
-unlessWaiting session.Abandoned x = x
+-- What the sending part says beside this session part of a session: its ACK, with which it is waiting, and its failure, with which it is not sent, are no verdicts.
+abbrev pub beside : Session → Says → Says
+beside session.Nothing x = x
+beside session.Waiting x = none
+beside (session.Response n) x = x
+beside (session.NoResponse n) x = x
+beside (session.NotSent n) x = none
+beside session.Abandoned x = x
 
 -- of an accepted send (Plain) or session (Asks): a verdict is looked for in both parts, whichever it was
 abbrev pub verdictIn : Asking → Sending → Session → Says
-verdictIn Plain s e = orElse (sendVerdict s) (sessionVerdict e)
-verdictIn (Asks c) s e = orElse (sessionVerdict e) (unlessWaiting e (sendVerdict s))
+verdictIn Plain s e = together (sendVerdict s) (sessionVerdict e)
+verdictIn (Asks c) s e = together (sessionVerdict e) (beside e (sendVerdict s))
 
 abbrev pub verdictOf : Asking → Out → Says
 verdictOf a o = verdictIn a (o .sending) (o .session)
@@ -112,6 +116,7 @@ add t l (ended v u m) = ended v (t + u) (l ++ m)
 abbrev pub onward : Says → ℕ → List ℕ → Watch → Watch
 onward none t l w = add t l w
 onward (says v) t l w = ended v t l
+onward (both v u) t l w = ended v t l
 
 -- an accepted call; w is the watch from the link that it gives
 abbrev pub watchTaken : Asking → What → Out → Watch → Watch
@@ -161,6 +166,7 @@ outsFrom R o h = o ∷ outs R (o .link) h
 abbrev pub count : Says → ℕ
 count none = 0
 count (says v) = 1
+count (both v w) = 2
 
 abbrev pub verdictsOf : Asking → List Out → ℕ
 verdictsOf a [] = 0

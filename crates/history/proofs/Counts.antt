@@ -1,0 +1,99 @@
+-- What the definitions of demand 3 count, on short histories that compute: each counts what it is named for.
+-- Assumes nothing.
+use Prim.Native.Nat.{ℕ}
+use mathlib.Core.Path.{_≡_, refl}
+use mathlib.Core.Bool.{true, false, false≢true}
+use mathlib.Core.List.{List, [], _∷_, _++_, map}
+use lib.ListN.{replicate}
+use lib.Dec.{eqb}
+use Rattle.frame.specs.Pick.{pick}
+use Rattle.frame.specs.Bytes.{xorAll}
+use Rattle.frame.specs.Frame.{frameOf}
+use Rattle.job.specs.Rules.{base}
+use Rattle.job.specs.declared.job.Asking.the-variants.{Plain, Asks}
+use Rattle.link.specs.State.{freshLink, noBody, noFrame}
+use Rattle.job.specs.declared.report.Sending.the-variants as sending
+use Rattle.job.specs.declared.report.Session.the-variants as sessions
+use Rattle.link.specs.Step.{Out, byteOut, tickOut, openOut, restartOut, runFrom}
+use Rattle.history.specs.Calls.{What, byte, bytes, tick, send, session, restart, Call, outOf}
+use Rattle.history.specs.History.{after, ticksIn, restartsIn}
+use Rattle.history.specs.Cut.{frames, singles, IsAnswer, ack, nak}
+use Rattle.history.specs.Watch.{Verdict, acknowledged, failed, response, noResponse, notSent, isOwn, says, both, verdictIn, count, ended, watched, verdictsFrom, abandonsFrom, linesFrom}
+
+abbrev lent : What → Call
+lent w = record { what = w; line = 258; up = 254 }
+
+abbrev sent : Out
+sent = outOf base freshLink (send 0 7 [])
+
+-- one verdict of a send that is acknowledged
+pub one-verdict : verdictsFrom base Plain sent (lent (byte 0x06) ∷ []) ≡ 1
+unfolding byteOut openOut frameOf xorAll noBody noFrame
+one-verdict = refl
+
+-- the bytes of a watch are those of the accepting call, and those of the call of the verdict
+abbrev asked : Out
+asked = outOf base freshLink (session 7 [])
+
+pub verdict-bytes : watched base (Asks 7) asked (map (λ (b : ℕ). lent (byte b)) (0x06 ∷ 0x01 ∷ 0x03 ∷ 0x01 ∷ 0x07 ∷ 0xFA ∷ []))
+    ≡ ended (response 1) 0 (0x01 ∷ 0x03 ∷ 0x00 ∷ 0x07 ∷ 0xFB ∷ 0x06 ∷ [])
+unfolding byteOut openOut frameOf xorAll noBody noFrame
+verdict-bytes = refl
+
+-- the bytes until another is accepted are those of every call: here of the tick that aborts a frame and puts the due copy out, and of two restarts
+pub every-line : linesFrom base (outOf base (after base (lent (byte 0x01) ∷ [])) (send 0 7 [])) (replicate 1501 (lent tick) ++ (lent restart ∷ lent restart ∷ []))
+    ≡ 0x01 ∷ 0x03 ∷ 0x00 ∷ 0x07 ∷ 0xFB ∷ 0x15 ∷ 0x15 ∷ []
+unfolding byteOut tickOut openOut restartOut frameOf xorAll noBody noFrame
+every-line = refl
+
+-- every kind of call once, and a tick that is refused: one accepted tick and one accepted restart
+abbrev everyCall : List Call
+everyCall =
+    lent tick
+    ∷ lent (byte 0x00)
+    ∷ lent (bytes [])
+    ∷ lent (send 0 7 [])
+    ∷ lent (byte 0x06)
+    ∷ lent (session 7 [])
+    ∷ record { what = tick; line = 257; up = 254 }
+    ∷ lent restart
+    ∷ []
+
+pub accepted-counted : (ticksIn base freshLink everyCall ≡ 1) × (restartsIn base freshLink everyCall ≡ 1)
+unfolding byteOut tickOut openOut restartOut runFrom frameOf xorAll noBody noFrame
+accepted-counted = (refl, refl)
+
+-- A verdict is found in either part, whichever the send was; two are two, but for a session's failure, which is one.
+pub both-parts : (c n m : ℕ) → (verdictIn Plain sending.Nothing (sessions.Response n) ≡ says (response n))
+    × (verdictIn Plain (sending.Acknowledged n) (sessions.Response m) ≡ both (acknowledged n) (response m))
+    × (verdictIn (Asks c) (sending.Failed n) sessions.Nothing ≡ says (failed n))
+    × (verdictIn (Asks c) (sending.Acknowledged n) sessions.Abandoned ≡ says (acknowledged n))
+    × (verdictIn (Asks c) (sending.Failed n) (sessions.Response m) ≡ both (response m) (failed n))
+    × (verdictIn (Asks c) (sending.Failed n) (sessions.NotSent m) ≡ says (notSent m))
+both-parts c n m = (refl, refl, refl, refl, refl, refl)
+
+pub two-are-two : (v w : Verdict) → count (both v w) ≡ 2
+two-are-two v w = refl
+
+-- abandoned said once of a send that is restarted, and twice restarted
+pub one-abandoned : abandonsFrom base sent (lent restart ∷ lent restart ∷ []) ≡ 1
+unfolding openOut restartOut frameOf xorAll noBody noFrame
+one-abandoned = refl
+
+-- the cutting finds single bytes and frames in their order
+pub cut-finds : (frames (0x06 ∷ 0x01 ∷ 0x03 ∷ 0x00 ∷ 0x07 ∷ 0xFB ∷ 0x15 ∷ []) ≡ (0x01 ∷ 0x03 ∷ 0x00 ∷ 0x07 ∷ 0xFB ∷ []) ∷ [])
+    × (singles (0x06 ∷ 0x01 ∷ 0x03 ∷ 0x00 ∷ 0x07 ∷ 0xFB ∷ 0x15 ∷ []) ≡ 0x06 ∷ 0x15 ∷ [])
+cut-finds = (refl, refl)
+
+-- an answer is 06 or 15
+pub answer-either : (b : ℕ) → IsAnswer b → pick (eqb b 0x06) true (eqb b 0x15) ≡ true
+answer-either b ack = refl
+answer-either b nak = refl
+
+-- each verdict is a send's or a session's, and not both
+pub own-apart : (c : ℕ) (v : Verdict) → isOwn Plain v ≡ true → isOwn (Asks c) v ≡ false
+own-apart c (acknowledged n) e = refl
+own-apart c (failed n) e = refl
+own-apart c (response n) e = absurd (false≢true e)
+own-apart c (noResponse n) e = absurd (false≢true e)
+own-apart c (notSent n) e = absurd (false≢true e)
