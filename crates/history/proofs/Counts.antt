@@ -18,7 +18,7 @@ use Rattle.link.specs.Step.{Out, byteOut, tickOut, openOut, restartOut, runFrom
 use Rattle.history.specs.Calls.{What, byte, bytes, tick, send, session, restart, Call, outOf}
 use Rattle.history.specs.History.{after, ticksIn, restartsIn}
 use Rattle.history.specs.Cut.{frames, singles, IsAnswer, ack, nak}
-use Rattle.history.specs.Watch.{Verdict, acknowledged, failed, response, noResponse, notSent, isOwn, says, both, verdictIn, count, ended, watched, verdictsFrom, abandonsFrom, linesFrom}
+use Rattle.history.specs.Watch.{Verdict, acknowledged, failed, response, noResponse, notSent, isOwn, none, says, both, verdictIn, count, ended, watched, verdictsFrom, abandonsFrom, linesFrom}
 
 abbrev lent : What → Call
 lent w = record { what = w; line = 258; up = 254 }
@@ -63,14 +63,19 @@ pub accepted-counted : (ticksIn base freshLink everyCall ≡ 1) × (restartsIn b
 unfolding byteOut tickOut openOut restartOut runFrom frameOf xorAll noBody noFrame
 accepted-counted = (refl, refl)
 
--- A verdict is found in either part, whichever the send was; two are two, but for a session's failure, which is one.
+-- A verdict is found in either part, whichever the send was; two are two. A session's ACK with waiting is none, its failure with not sent is one.
 pub both-parts : (c n m : ℕ) → (verdictIn Plain sending.Nothing (sessions.Response n) ≡ says (response n))
     × (verdictIn Plain (sending.Acknowledged n) (sessions.Response m) ≡ both (acknowledged n) (response m))
     × (verdictIn (Asks c) (sending.Failed n) sessions.Nothing ≡ says (failed n))
     × (verdictIn (Asks c) (sending.Acknowledged n) sessions.Abandoned ≡ says (acknowledged n))
     × (verdictIn (Asks c) (sending.Failed n) (sessions.Response m) ≡ both (response m) (failed n))
+both-parts c n m = (refl, refl, refl, refl, refl)
+
+pub ack-or-failure : (c n m : ℕ) → (verdictIn (Asks c) (sending.Acknowledged n) sessions.Waiting ≡ none)
+    × (verdictIn (Asks c) (sending.Failed n) sessions.Waiting ≡ says (failed n))
     × (verdictIn (Asks c) (sending.Failed n) (sessions.NotSent m) ≡ says (notSent m))
-both-parts c n m = (refl, refl, refl, refl, refl, refl)
+    × (verdictIn (Asks c) (sending.Acknowledged n) (sessions.NotSent m) ≡ both (notSent m) (acknowledged n))
+ack-or-failure c n m = (refl, refl, refl, refl)
 
 pub two-are-two : (v w : Verdict) → count (both v w) ≡ 2
 two-are-two v w = refl

@@ -3,6 +3,7 @@
 use Prim.Native.Nat.{ℕ, _+_}
 use mathlib.Core.Bool.{Bool, true, false}
 use mathlib.Core.List.{List, [], _∷_, _++_}
+use Rattle.frame.specs.Pick.{pick}
 use Rattle.job.specs.Rules.{Rules}
 use Rattle.link.specs.Step.{Out}
 use Rattle.job.specs.declared.job.Asking.{Asking}
@@ -35,6 +36,13 @@ isFailure (failed n) = true
 isFailure (response n) = false
 isFailure (noResponse n) = false
 isFailure (notSent n) = true
+
+abbrev pub isAck : Verdict → Bool
+isAck (acknowledged n) = true
+isAck (failed n) = false
+isAck (response n) = false
+isAck (noResponse n) = false
+isAck (notSent n) = false
 
 -- a send's verdict is acknowledged or failed, a session's response, no response or not sent
 abbrev pub isOwn : Asking → Verdict → Bool
@@ -83,13 +91,19 @@ together (says v) (says w) = both v w
 together (says v) (both w u) = both v w
 together (both v w) x = both v w
 
+-- a verdict of this kind passed over
+abbrev pub without : (Verdict → Bool) → Says → Says
+without kind none = none
+without kind (says v) = pick (kind v) none (says v)
+without kind (both v w) = both v w
+
 -- What the sending part says beside this session part of a session: its ACK, with which it is waiting, and its failure, with which it is not sent, are no verdicts.
 abbrev pub beside : Session → Says → Says
 beside session.Nothing x = x
-beside session.Waiting x = none
+beside session.Waiting x = without isAck x
 beside (session.Response n) x = x
 beside (session.NoResponse n) x = x
-beside (session.NotSent n) x = none
+beside (session.NotSent n) x = without isFailure x
 beside session.Abandoned x = x
 
 -- of an accepted send (Plain) or session (Asks): a verdict is looked for in both parts, whichever it was
