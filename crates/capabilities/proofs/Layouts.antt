@@ -7,22 +7,22 @@ use Prim.Native.Nat.{ℕ}
 use lib.Dec.{ltb}
 use lib.ListN.{length}
 use borrow.Author.Tests.{ltb-false}
-use Rattle.masks.specs.Response.{answers}
-use Rattle.masks.specs.Mask.{marks}
+use Rattle.masks.specs.Response.{isResponse}
+use Rattle.masks.specs.Mask.{isMarked}
 use Rattle.masks.proofs.Layouts.{both, neither}
-use Rattle.capabilities.specs.Capabilities.{isCapabilities, functionMask, OfCapabilities, answerOf, capabilitiesOf}
+use Rattle.capabilities.specs.Capabilities.{isCapabilities, functionMask, OfCapabilities, capabilitiesOf, readCapabilities}
 use Rattle.capabilities.specs.declared.Capabilities.the-variants.{Answer}
 
 pub of-capabilities : (body : List ℕ) → isCapabilities body ≡ true → OfCapabilities body
 of-capabilities body e =
-    let a = both (answers body 7) e .1 in
+    let a = both (isResponse body 7) e .1 in
     let b = neither (ltb (length body) 10) a in
     let c = neither (ltb 42 (length body)) (b .1) in
-    let d = neither (marks (functionMask body) 256) (c .1) in
+    let d = neither (isMarked (functionMask body) 256) (c .1) in
     record { least = ltb-false (length body) 10 (b .0); most = ltb-false 42 (length body) (c .0); clear = d .0 }
 
 -- what a body of its layout gives
-pub capabilities-yes : (body : List ℕ) → isCapabilities body ≡ true → capabilitiesOf body ≡ answerOf body
+pub capabilities-yes : (body : List ℕ) → isCapabilities body ≡ true → readCapabilities body ≡ capabilitiesOf body
 capabilities-yes body e = rw e
 
 -- an answer, by its numbers of two bytes and its count

@@ -7,13 +7,13 @@ use mathlib.Core.Logic.{_↔_}
 use Prim.Native.Nat.{ℕ, _≤_}
 use native.Mathlib.Omega.{arith}
 use lib.ListN.{length, getD, length-drop}
-use Rattle.frame.specs.Pick.{pick}
-use Rattle.frame.specs.declared.refusal.Refusal.{Refusal}
-use Rattle.frame.specs.declared.refusal.Refusal.the-variants as refusal
-use Rattle.frame.proofs.Picks.{picked-first, through}
-use Rattle.frame.proofs.Theorems.{fixed}
-use Rattle.masks.specs.Mask.{bitOf, marks, marked, onesIn, Rising, Bytes}
-use Rattle.capabilities.specs.Capabilities.{word, functionMask, isCapabilities, supported, answerOf, capabilitiesTold, capabilitiesOf, supportTold, supportOf}
+use Rattle.refusals.specs.Pick.{pick}
+use Rattle.refusals.specs.declared.Refusal.{Refusal}
+use Rattle.refusals.specs.declared.Refusal.the-variants as refusal
+use Rattle.refusals.proofs.Picks.{picked-first, through}
+use Rattle.refusals.proofs.Theorems.{fixed}
+use Rattle.masks.specs.Mask.{bitOf, isMarked, marked, onesIn, Rising, Bytes}
+use Rattle.capabilities.specs.Capabilities.{word, functionMask, isCapabilities, supported, capabilitiesOf, capabilitiesTold, readCapabilities, supportTold, supports}
 use Rattle.capabilities.specs.declared.Capabilities.{Capabilities}
 use Rattle.capabilities.specs.declared.Capabilities.the-variants as capabilities
 use Rattle.capabilities.specs.declared.Support.{Support}
@@ -25,10 +25,10 @@ use Rattle.masks.proofs.Masks.{ones-supported}
 
 -- ---- Section 12: each promise determines its answer and every lent byte after the call, refusals too
 
-pub read-capabilities-determined : (body : List ℕ) {r q : Capabilities} → r ≡ capabilitiesOf body → q ≡ capabilitiesOf body → r ≡ q
+pub read-capabilities-determined : (body : List ℕ) {r q : Capabilities} → r ≡ readCapabilities body → q ≡ readCapabilities body → r ≡ q
 read-capabilities-determined body = fixed
 
-pub supports-determined : (body : List ℕ) (f : ℕ) {r q : Support} → r ≡ supportOf body f → q ≡ supportOf body f → r ≡ q
+pub supports-determined : (body : List ℕ) (f : ℕ) {r q : Support} → r ≡ supports body f → q ≡ supports body f → r ≡ q
 supports-determined body f = fixed
 
 -- ---- capabilities
@@ -40,10 +40,10 @@ not-unsupported : support.Unsupported ≡ support.Supported → ⊥
 not-unsupported e = let z : _≡_ {A = ℕ} 0 1 = cc in omega arith
 
 -- a function is supported exactly if it is marked in a body of the layout
-support-marks : (body : List ℕ) (f : ℕ) → (supportOf body f ≡ support.Supported) ↔ ((isCapabilities body ≡ true) × (marks (functionMask body) f ≡ true))
+support-marks : (body : List ℕ) (f : ℕ) → (supports body f ≡ support.Supported) ↔ ((isCapabilities body ≡ true) × (isMarked (functionMask body) f ≡ true))
 support-marks body f = (
   λ e. let layout = picked-first (isCapabilities body) not-refused e in
-      (layout .0, picked-first (marks (functionMask body) f) not-unsupported (layout .1) .0),
+      (layout .0, picked-first (isMarked (functionMask body) f) not-unsupported (layout .1) .0),
   λ (h, e). rw (h, e),
 )
 
@@ -52,7 +52,7 @@ few body e = let layout = of-capabilities body e in omega (arith, length-drop 10
 
 -- function f is supported exactly if f is 1 to 255 and its bit is 1
 pub supported-exactly : (body : List ℕ) (f : ℕ)
-    → (supportOf body f ≡ support.Supported) ↔ ((isCapabilities body ≡ true) × (1 ≤ f) × (f ≤ 255) × (bitOf (functionMask body) f ≡ 1))
+    → (supports body f ≡ support.Supported) ↔ ((isCapabilities body ≡ true) × (1 ≤ f) × (f ≤ 255) × (bitOf (functionMask body) f ≡ 1))
 supported-exactly body f = (
   λ e.
       let h = support-marks body f .0 e in
@@ -65,7 +65,7 @@ supported-exactly body f = (
 pub supported-counts : (body : List ℕ) → isCapabilities body ≡ true
     → (supported body ≡ length (marked (functionMask body) 255))
     × Rising (marked (functionMask body) 255)
-    × ((f : ℕ) → List·Memᴰ f (marked (functionMask body) 255) ↔ (supportOf body f ≡ support.Supported))
+    × ((f : ℕ) → List·Memᴰ f (marked (functionMask body) 255) ↔ (supports body f ≡ support.Supported))
 supported-counts body e = (
   refl,
   marked-rising (functionMask body) 255,
@@ -81,7 +81,7 @@ ones-are-supported body bytes e = ones-supported (functionMask body) (bytes-from
 
 -- so the answer holds the number of one bits
 pub answer-holds-ones : (body : List ℕ) → Bytes body → isCapabilities body ≡ true
-    → capabilitiesOf body
+    → readCapabilities body
     ≡ capabilities.Answer
     (getD body 2 0)
     (getD body 3 0)
@@ -94,11 +94,11 @@ answer-holds-ones body bytes e = rw (ones-are-supported body bytes e) (capabilit
 -- ---- Section 3: the number of each refusal alone, and 0 with the values of each answer
 
 pub capabilities-told : (body : List ℕ)
-    → capabilitiesTold (capabilitiesOf body) ≡ pick (isCapabilities body) (capabilitiesTold (answerOf body)) (10 ∷ [])
-capabilities-told body = through capabilitiesTold (isCapabilities body) (answerOf body) (capabilities.Refused refusal.Form)
+    → capabilitiesTold (readCapabilities body) ≡ pick (isCapabilities body) (capabilitiesTold (capabilitiesOf body)) (10 ∷ [])
+capabilities-told body = through capabilitiesTold (isCapabilities body) (capabilitiesOf body) (capabilities.Refused refusal.Form)
 
 pub support-told : (body : List ℕ) (f : ℕ)
-    → supportTold (supportOf body f) ≡ pick (isCapabilities body) (pick (marks (functionMask body) f) (0 ∷ 1 ∷ []) (0 ∷ 0 ∷ [])) (10 ∷ [])
+    → supportTold (supports body f) ≡ pick (isCapabilities body) (pick (isMarked (functionMask body) f) (0 ∷ 1 ∷ []) (0 ∷ 0 ∷ [])) (10 ∷ [])
 support-told body f =
-    through supportTold (isCapabilities body) (pick (marks (functionMask body) f) support.Supported support.Unsupported) (support.Refused refusal.Form)
-    ∙ ap (λ (x : List ℕ). pick (isCapabilities body) x (10 ∷ [])) (through supportTold (marks (functionMask body) f) support.Supported support.Unsupported)
+    through supportTold (isCapabilities body) (pick (isMarked (functionMask body) f) support.Supported support.Unsupported) (support.Refused refusal.Form)
+    ∙ ap (λ (x : List ℕ). pick (isCapabilities body) x (10 ∷ [])) (through supportTold (isMarked (functionMask body) f) support.Supported support.Unsupported)

@@ -6,11 +6,11 @@ use mathlib.Core.Bool.{Bool, true, false}
 use mathlib.Core.List.{List, [], _∷_}
 use lib.Dec.{ltb}
 use lib.ListN.{length, getD, drop}
-use Rattle.frame.specs.Pick.{pick}
-use Rattle.frame.specs.Refusals.{numberOf}
-use Rattle.frame.specs.declared.refusal.Refusal.the-variants as refusal
-use Rattle.masks.specs.Response.{answers}
-use Rattle.masks.specs.Mask.{marks, marked}
+use Rattle.refusals.specs.Pick.{pick}
+use Rattle.refusals.specs.Refusals.{numberOf}
+use Rattle.refusals.specs.declared.Refusal.the-variants as refusal
+use Rattle.masks.specs.Response.{isResponse}
+use Rattle.masks.specs.Mask.{isMarked, marked}
 use Rattle.capabilities.specs.declared.Capabilities.{Capabilities}
 use Rattle.capabilities.specs.declared.Capabilities.the-variants as capabilities
 use Rattle.capabilities.specs.declared.Support.{Support}
@@ -26,25 +26,25 @@ functionMask body = drop 10 body
 
 abbrev pub isCapabilities : List ℕ → Bool
 isCapabilities body =
-    pick (answers body 7)
+    pick (isResponse body 7)
     (pick (ltb (length body) 10) false
     (pick (ltb 42 (length body)) false
-    (pick (marks (functionMask body) 256) false true)))
+    (pick (isMarked (functionMask body) 256) false true)))
     false
 
 -- what the layout says of a body
 pub record OfCapabilities (body : List ℕ) : Type 0 where
   pub least : 10 ≤ length body
   pub most : length body ≤ 42
-  pub clear : marks (functionMask body) 256 ≡ false
+  pub clear : isMarked (functionMask body) 256 ≡ false
 
 -- the number of supported functions
 abbrev pub supported : List ℕ → ℕ
 supported body = length (marked (functionMask body) 255)
 
 -- the eight fixed bytes: version, revision, then manufacturer, product type and product id as numbers of two bytes
-abbrev pub answerOf : List ℕ → Capabilities
-answerOf body =
+abbrev pub capabilitiesOf : List ℕ → Capabilities
+capabilitiesOf body =
     capabilities.Answer
     (getD body 2 0)
     (getD body 3 0)
@@ -58,8 +58,8 @@ abbrev pub capabilitiesTold : Capabilities → List ℕ
 capabilitiesTold (capabilities.Refused k) = numberOf k ∷ []
 capabilitiesTold (capabilities.Answer v r m t i n) = 0 ∷ v ∷ r ∷ m ∷ t ∷ i ∷ n ∷ []
 
-abbrev pub capabilitiesOf : List ℕ → Capabilities
-capabilitiesOf body = pick (isCapabilities body) (answerOf body) (capabilities.Refused refusal.Form)
+abbrev pub readCapabilities : List ℕ → Capabilities
+readCapabilities body = pick (isCapabilities body) (capabilitiesOf body) (capabilities.Refused refusal.Form)
 
 -- the number of the refusal; 0, and 1 for supported
 abbrev pub supportTold : Support → List ℕ
@@ -68,8 +68,8 @@ supportTold support.Supported = 0 ∷ 1 ∷ []
 supportTold support.Unsupported = 0 ∷ 0 ∷ []
 
 -- one function of a body
-abbrev pub supportOf : List ℕ → ℕ → Support
-supportOf body f =
+abbrev pub supports : List ℕ → ℕ → Support
+supports body f =
     pick (isCapabilities body)
-    (pick (marks (functionMask body) f) support.Supported support.Unsupported)
+    (pick (isMarked (functionMask body) f) support.Supported support.Unsupported)
     (support.Refused refusal.Form)

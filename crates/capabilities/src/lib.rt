@@ -1,12 +1,12 @@
 // Capabilities RES, command 07 (document 01, section 8; 002, 7.3).
-use frame::Refusal;
+use refusals::Refusal;
 use masks::is_marked;
 use masks::is_response;
 ghost use mathlib.Core.Path.{_≡_};
 ghost use Prim.Native.Nat.{_≤_};
 ghost use lib.ListN.{length};
 ghost use Rattle.masks.specs.Mask.{onesIn};
-ghost use Rattle.capabilities.specs.Capabilities.{word, isCapabilities, OfCapabilities, answerOf, capabilitiesOf, supportOf};
+ghost use Rattle.capabilities.specs.Capabilities.{word, isCapabilities, OfCapabilities, capabilitiesOf, readCapabilities, supports};
 
 pub enum Capabilities {
     Refused(Refusal),
@@ -28,14 +28,14 @@ pub enum Support {
 }
 
 // A number of two bytes, most significant first.
-fn joined(high: u8, low: u8) -> u16
+fn word(high: u8, low: u8) -> u16
     ensures { λ r. ⌜ r ≡ word high low ⌝ }
 {
     high as u16 * 256 + low as u16
 }
 
 // The number of one bits of a mask of at most 32 bytes.
-fn ones(mask: &[u8]) -> u16
+fn ones_in(mask: &[u8]) -> u16
     requires { ⌜ length (now mask) ≤ 32 ⌝ }
     ensures { λ r. ⌜ r ≡ onesIn (now (mask .entry)) ⌝ }
 {
@@ -68,33 +68,33 @@ fn is_capabilities(body: &[u8]) -> bool
 }
 
 // The answer to a body of the layout.
-fn answer(body: &[u8]) -> Capabilities
+fn capabilities_of(body: &[u8]) -> Capabilities
     requires { ⌜ OfCapabilities (now body) ⌝ }
-    ensures { λ r. ⌜ r ≡ answerOf (now (body .entry)) ⌝ }
+    ensures { λ r. ⌜ r ≡ capabilitiesOf (now (body .entry)) ⌝ }
 {
     Capabilities::Answer {
         version: body[2],
         revision: body[3],
-        manufacturer: joined(body[4], body[5]),
-        product_type: joined(body[6], body[7]),
-        product_id: joined(body[8], body[9]),
-        supported: ones(&body[10..]),
+        manufacturer: word(body[4], body[5]),
+        product_type: word(body[6], body[7]),
+        product_id: word(body[8], body[9]),
+        supported: ones_in(&body[10..]),
     }
 }
 
 // Reads the whole body.
 pub fn read_capabilities(body: &[u8]) -> Capabilities
-    ensures { λ r. ⌜ r ≡ capabilitiesOf (now (body .entry)) ⌝ }
+    ensures { λ r. ⌜ r ≡ readCapabilities (now (body .entry)) ⌝ }
 {
     if !is_capabilities(body) {
         return Capabilities::Refused(Refusal::Form);
     }
-    answer(body)
+    capabilities_of(body)
 }
 
 // Reads one function of the body.
 pub fn supports(body: &[u8], f: u8) -> Support
-    ensures { λ r. ⌜ r ≡ supportOf (now (body .entry)) f ⌝ }
+    ensures { λ r. ⌜ r ≡ supports (now (body .entry)) f ⌝ }
 {
     if !is_capabilities(body) {
         return Support::Refused(Refusal::Form);

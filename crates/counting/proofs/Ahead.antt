@@ -10,20 +10,20 @@ use borrow.Author.Tests.{lt-ltb, le-ltb, ne-eqb}
 use lib.Dec.{eqb, ltb}
 use lib.ListN.{length, take, drop, getD, take-append-drop, length-drop}
 use lib.Seq.{drop-cons, drop-drop, length-take-le}
-use Rattle.frame.specs.Pick.{pick}
-use Rattle.frame.specs.Bytes.{xorAll}
-use Rattle.reception.specs.Hearing.{heard, begun, more, ended}
-use Rattle.reception.specs.declared.hearing.Partial.{Partial}
-use Rattle.reception.specs.declared.hearing.Hearing.{Hearing}
-use Rattle.reception.specs.declared.hearing.Hearing.the-variants.{Hunting, Head, Body}
-use Rattle.reception.specs.declared.hearing.Single.the-variants.{Ack, Nak, Can}
-use Rattle.reception.specs.declared.hearing.End.the-variants.{BadSum, Reserved, Request, Response}
-use Rattle.reception.specs.declared.hearing.Event.the-variants.{Skipped, Alone}
+use Rattle.refusals.specs.Pick.{pick}
+use Rattle.frame.specs.Bytes.{fold}
+use Rattle.hearing.specs.Hearing.{heard, begun, more, ended}
+use Rattle.hearing.specs.declared.hearing.Partial.{Partial}
+use Rattle.hearing.specs.declared.hearing.Hearing.{Hearing}
+use Rattle.hearing.specs.declared.hearing.Hearing.the-variants.{Hunting, Head, Body}
+use Rattle.hearing.specs.declared.hearing.Single.the-variants.{Ack, Nak, Can}
+use Rattle.hearing.specs.declared.hearing.End.the-variants.{BadSum, Reserved, Request, Response}
+use Rattle.hearing.specs.declared.hearing.Event.the-variants.{Skipped, Alone}
 use Rattle.tally.specs.declared.Counts.{Counts}
 use Rattle.tally.specs.declared.Tally.{Tally}
-use Rattle.tally.specs.Tally.{endColumn, added, tallied, countedByte}
-use Rattle.counting.specs.Counting.{countedFrom}
-use Rattle.counting.specs.Ahead.{hunting, apart, whole, Ahead, Onward}
+use Rattle.tally.specs.Tally.{endColumn, added, tallied, countByte}
+use Rattle.counting.specs.Counting.{count}
+use Rattle.counting.specs.Ahead.{hunting, apart, whole, Ahead, Beyond}
 use Rattle.counting.proofs.Laws.{count-more}
 
 abbrev headed : Counts → Tally
@@ -42,19 +42,19 @@ apart-heard k false true t24 = refl
 apart-heard k false false true = refl
 apart-heard k false false false = refl
 
-apart-byte : (k : Counts) (b : ℕ) → (b ≡ 1 → ⊥) → countedByte b (hunting k) ≡ hunting (added (apart b) k)
+apart-byte : (k : Counts) (b : ℕ) → (b ≡ 1 → ⊥) → countByte b (hunting k) ≡ hunting (added (apart b) k)
 apart-byte k b h = rw (ne-eqb b 1 h) (apart-heard k (eqb b 6) (eqb b 21) (eqb b 24))
 
 -- An 01, and a Length of at least 3.
 
 begun-bytes : (k : Counts) (size : ℕ) (rest : List ℕ) → 3 ≤ size
-    → countedFrom (hunting k) (1 ∷ size ∷ rest) ≡ countedFrom (inside (begun 0 size) k) rest
-unfolding countedFrom
+    → count (hunting k) (1 ∷ size ∷ rest) ≡ count (inside (begun 0 size) k) rest
+unfolding count
 begun-bytes k size rest h = simp (le-ltb size 3 h)
 
 short-bytes : (k : Counts) (size : ℕ) (rest : List ℕ) → size < 3
-    → countedFrom (hunting k) (1 ∷ size ∷ rest) ≡ countedFrom (hunting (added 5 k)) rest
-unfolding countedFrom
+    → count (hunting k) (1 ∷ size ∷ rest) ≡ count (hunting (added 5 k)) rest
+unfolding count
 short-bytes k size rest h = simp (lt-ltb size 3 h)
 
 -- A run of body bytes.
@@ -63,15 +63,15 @@ unfoldable walked : Partial → List ℕ → Partial
 walked p [] = p
 walked p (b ∷ bs) = walked (more p b) bs
 
-walk-byte : (p : Partial) (k : Counts) (b : ℕ) → p .at < p .size → countedByte b (inside p k) ≡ inside (more p b) k
+walk-byte : (p : Partial) (k : Counts) (b : ℕ) → p .at < p .size → countByte b (inside p k) ≡ inside (more p b) k
 walk-byte p k b h = simp (lt-ltb (p .at) (p .size) h)
 
 walk : (p : Partial) (k : Counts) (bs rest : List ℕ) → p .at + length bs ≤ p .size
-    → countedFrom (inside p k) (bs ++ rest) ≡ countedFrom (inside (walked p bs) k) rest
-unfolding countedFrom walked
+    → count (inside p k) (bs ++ rest) ≡ count (inside (walked p bs) k) rest
+unfolding count walked
 walk p k [] rest h = refl
 walk p k (b ∷ bs) rest h =
-    ap (λ (t : Tally). countedFrom t (bs ++ rest)) (walk-byte p k b (omega arith)) ∙ walk (more p b) k bs rest (omega arith)
+    ap (λ (t : Tally). count t (bs ++ rest)) (walk-byte p k b (omega arith)) ∙ walk (more p b) k bs rest (omega arith)
 
 walked-size : (p : Partial) (bs : List ℕ) → walked p bs .size ≡ p .size
 unfolding walked
@@ -83,8 +83,8 @@ unfolding walked
 walked-at p [] = omega arith
 walked-at p (b ∷ bs) = omega (arith, walked-at (more p b) bs)
 
-walked-sum : (p : Partial) (bs : List ℕ) → walked p bs .sum ≡ xorAll (p .sum) bs
-unfolding walked xorAll
+walked-sum : (p : Partial) (bs : List ℕ) → walked p bs .sum ≡ fold (p .sum) bs
+unfolding walked fold
 walked-sum p [] = refl
 walked-sum p (b ∷ bs) = walked-sum (more p b) bs
 
@@ -111,32 +111,32 @@ end-column p true false false = refl
 end-column p false t0 t1 = refl
 
 checked : (p : Partial) (k : Counts) (check : ℕ) (rest : List ℕ) → p .size ≤ p .at
-    → countedFrom (inside p k) (check ∷ rest) ≡ countedFrom (hunting (added (whole (p .kind) (p .sum) check) k)) rest
-unfolding countedFrom
+    → count (inside p k) (check ∷ rest) ≡ count (hunting (added (whole (p .kind) (p .sum) check) k)) rest
+unfolding count
 checked p k check rest h =
     let e : endColumn (pick (eqb check (p .sum)) (ended p) BadSum) ≡ whole (p .kind) (p .sum) check =
     end-column p (eqb check (p .sum)) (eqb (p .kind) 0) (eqb (p .kind) 1)
     ∙ ap (λ (c : ℕ). pick (eqb check (p .sum)) c 4) (types (p .kind)) in
-    rw (le-ltb (p .at) (p .size) h) (ap (λ (c : ℕ). countedFrom (hunting (added c k)) rest) e)
+    rw (le-ltb (p .at) (p .size) h) (ap (λ (c : ℕ). count (hunting (added c k)) rest) e)
 
 wholes : {kind kind′ sum sum′ : ℕ} (check : ℕ) → kind ≡ kind′ → sum ≡ sum′ → whole kind sum check ≡ whole kind′ sum′ check
 wholes check e f = simp (e, f)
 
 -- A whole frame: 01, Length, the Type and the rest of the body, Checksum.
 frame-bytes : (k : Counts) (size kind check : ℕ) (body rest : List ℕ) → 3 ≤ size → length body + 2 ≡ size
-    → countedFrom (hunting k) (1 ∷ size ∷ kind ∷ (body ++ check ∷ rest))
-    ≡ countedFrom (hunting (added (whole kind (xorAll 255 (size ∷ kind ∷ body)) check) k)) rest
-unfolding walked xorAll
+    → count (hunting k) (1 ∷ size ∷ kind ∷ (body ++ check ∷ rest))
+    ≡ count (hunting (added (whole kind (fold 255 (size ∷ kind ∷ body)) check) k)) rest
+unfolding walked fold
 frame-bytes k size kind check body rest h l =
     let p = begun 0 size in
     let q = walked p (kind ∷ body) in
-    let s : q .sum ≡ xorAll 255 (size ∷ kind ∷ body) = walked-sum p (kind ∷ body) in
+    let s : q .sum ≡ fold 255 (size ∷ kind ∷ body) = walked-sum p (kind ∷ body) in
     let t : q .kind ≡ kind = walked-kind (more p kind) body (omega arith) in
     let d : q .size ≤ q .at = omega (arith, walked-size p (kind ∷ body), walked-at p (kind ∷ body)) in
     begun-bytes k size (kind ∷ (body ++ check ∷ rest)) h
     ∙ walk p k (kind ∷ body) (check ∷ rest) (omega arith)
     ∙ checked q k check rest d
-    ∙ ap (λ (c : ℕ). countedFrom (hunting (added c k)) rest) (wholes check t s)
+    ∙ ap (λ (c : ℕ). count (hunting (added c k)) rest) (wholes check t s)
 
 -- The same at a place of the bytes.
 
@@ -156,7 +156,7 @@ module _ (bytes : List ℕ) (i : ℕ) (k : Counts) where
         within = omega arith;
         same =
             count-more (hunting k) i bytes h
-            ∙ ap (λ (t : Tally). countedFrom t (drop (i + 1) bytes)) (apart-byte k (getD bytes i 0) n);
+            ∙ ap (λ (t : Tally). count t (drop (i + 1) bytes)) (apart-byte k (getD bytes i 0) n);
       }
 
   pub short-at : i + 1 < length bytes → getD bytes i 0 ≡ 1 → getD bytes (i + 1) 0 < 3 → Ahead bytes (hunting k) i (hunting (added 5 k)) (i + 2)
@@ -168,7 +168,7 @@ module _ (bytes : List ℕ) (i : ℕ) (k : Counts) where
       record {
         on = omega arith;
         within = omega arith;
-        same = ap (λ (l : List ℕ). countedFrom (hunting k) l) a ∙ short-bytes k (getD bytes (i + 1) 0) (drop (i + 2) bytes) short;
+        same = ap (λ (l : List ℕ). count (hunting k) l) a ∙ short-bytes k (getD bytes (i + 1) 0) (drop (i + 2) bytes) short;
       }
 
   module _ (n : ℕ) (fits : i + n + 4 ≤ length bytes) (one : getD bytes i 0 ≡ 1) (two : getD bytes (i + 1) 0 ≡ n + 2) where
@@ -204,27 +204,27 @@ module _ (bytes : List ℕ) (i : ℕ) (k : Counts) where
     folded = ap (λ (l : List ℕ). take (n + 2) l) behind-length ∙ take-two n (n + 2) (getD bytes (i + 2) 0) (drop (i + 3) bytes)
 
     whole-there : 1 ≤ n
-        → countedFrom (hunting k) (drop i bytes)
-        ≡ countedFrom
-        (hunting (added (whole (getD bytes (i + 2) 0) (xorAll 255 (take (n + 2) (drop (i + 1) bytes))) (getD bytes (i + 3 + n) 0)) k))
+        → count (hunting k) (drop i bytes)
+        ≡ count
+        (hunting (added (whole (getD bytes (i + 2) 0) (fold 255 (take (n + 2) (drop (i + 1) bytes))) (getD bytes (i + 3 + n) 0)) k))
         (drop (i + 4 + n) bytes)
     whole-there h =
-        ap (λ (l : List ℕ). countedFrom (hunting k) l) laid-out
+        ap (λ (l : List ℕ). count (hunting k) l) laid-out
         ∙ frame-bytes k (n + 2) (getD bytes (i + 2) 0) (getD bytes (i + 3 + n) 0) body (drop (i + 4 + n) bytes) (omega arith)
         (omega (arith, body-length))
-        ∙ ap (λ (l : List ℕ). countedFrom (hunting (added (whole (getD bytes (i + 2) 0) (xorAll 255 l) (getD bytes (i + 3 + n) 0)) k)) (drop (i + 4 + n) bytes))
+        ∙ ap (λ (l : List ℕ). count (hunting (added (whole (getD bytes (i + 2) 0) (fold 255 l) (getD bytes (i + 3 + n) 0)) k)) (drop (i + 4 + n) bytes))
         (sym folded)
 
     whole-to : (size last next : ℕ) → size ≡ n + 2 → last ≡ i + 3 + n → next ≡ i + 4 + n → 1 ≤ n
-        → countedFrom (hunting k) (drop i bytes)
-        ≡ countedFrom
-        (hunting (added (whole (getD bytes (i + 2) 0) (xorAll 255 (take size (drop (i + 1) bytes))) (getD bytes last 0)) k))
+        → count (hunting k) (drop i bytes)
+        ≡ count
+        (hunting (added (whole (getD bytes (i + 2) 0) (fold 255 (take size (drop (i + 1) bytes))) (getD bytes last 0)) k))
         (drop next bytes)
     whole-to size last next a b c h = rw (a, b, c) (whole-there h)
 
   pub whole-at : (size last : ℕ) → getD bytes i 0 ≡ 1 → getD bytes (i + 1) 0 ≡ size → 3 ≤ size → last ≡ i + 1 + size → last < length bytes
       → Ahead bytes (hunting k) i
-      (hunting (added (whole (getD bytes (i + 2) 0) (xorAll 255 (take size (drop (i + 1) bytes))) (getD bytes last 0)) k)) (last + 1)
+      (hunting (added (whole (getD bytes (i + 2) 0) (fold 255 (take size (drop (i + 1) bytes))) (getD bytes last 0)) k)) (last + 1)
   whole-at size last one two least e fits =
       record {
         on = omega arith;
@@ -243,10 +243,10 @@ module _ {bytes : List ℕ} {t u v : Tally} {i j m : ℕ} where
   pub ahead-ahead : Ahead bytes t i u j → Ahead bytes u j v m → Ahead bytes t i v m
   ahead-ahead a b = record { on = omega arith; within = b .within; same = a .same ∙ b .same }
 
-  pub ahead-on : Ahead bytes t i u j → Onward bytes u j v m → Ahead bytes t i v m
+  pub ahead-on : Ahead bytes t i u j → Beyond bytes u j v m → Ahead bytes t i v m
   ahead-on a b = record { on = omega arith; within = b .within; same = a .same ∙ b .same }
 
-  pub ahead-onward : Ahead bytes t i u j → Onward bytes u j v m → Onward bytes t i v m
+  pub ahead-onward : Ahead bytes t i u j → Beyond bytes u j v m → Beyond bytes t i v m
   ahead-onward a b = record { on = omega arith; within = b .within; same = a .same ∙ b .same }
 
 -- The tally, or the counts, that a call answered.
@@ -256,15 +256,15 @@ tally-is {bytes} {t} {u} {w} {i} {j} e a = subst (λ (x : Tally). Ahead bytes t 
 pub counts-are : {bytes : List ℕ} {t : Tally} {k l : Counts} {i j : ℕ} → l ≡ k → Ahead bytes t i (hunting k) j → Ahead bytes t i (hunting l) j
 counts-are e a = tally-is (ap hunting e) a
 
-pub byte-at : (bytes : List ℕ) (t u : Tally) (i : ℕ) → i < length bytes → u ≡ countedByte (getD bytes i 0) t → Onward bytes t i u (i + 1)
+pub byte-at : (bytes : List ℕ) (t u : Tally) (i : ℕ) → i < length bytes → u ≡ countByte (getD bytes i 0) t → Beyond bytes t i u (i + 1)
 byte-at bytes t u i h e =
     record {
       on = omega arith;
       within = omega arith;
-      same = count-more t i bytes h ∙ ap (λ (w : Tally). countedFrom w (drop (i + 1) bytes)) (sym e);
+      same = count-more t i bytes h ∙ ap (λ (w : Tally). count w (drop (i + 1) bytes)) (sym e);
     }
 
 -- A tally that hunts is its counts.
-pub onward-hunting : {bytes : List ℕ} {t u : Tally} {i j : ℕ} → t .hearing ≡ Hunting → Onward bytes (hunting (t .counts)) i u j → Onward bytes t i u j
+pub onward-hunting : {bytes : List ℕ} {t u : Tally} {i j : ℕ} → t .hearing ≡ Hunting → Beyond bytes (hunting (t .counts)) i u j → Beyond bytes t i u j
 onward-hunting {bytes} {t} {u} {i} {j} e o =
-    subst (λ (h : Hearing). Onward bytes (record { hearing = h; counts = t .counts }) i u j) (sym e) o
+    subst (λ (h : Hearing). Beyond bytes (record { hearing = h; counts = t .counts }) i u j) (sym e) o

@@ -8,16 +8,16 @@ use native.Mathlib.Omega.{arith}
 use lib.Dec.{eqb}
 use lib.ListN.{length}
 use borrow.Author.Tests.{lt-ltb}
-use Rattle.frame.specs.Pick.{pick}
-use Rattle.reception.specs.Hearing.{heardByte}
-use Rattle.reception.specs.declared.hearing.Hearing.{Hearing}
-use Rattle.reception.specs.declared.hearing.Hearing.the-variants.{Hunting}
-use Rattle.reception.specs.declared.hearing.Event.{Event}
+use Rattle.refusals.specs.Pick.{pick}
+use Rattle.hearing.specs.Hearing.{hearByte}
+use Rattle.hearing.specs.declared.hearing.Hearing.{Hearing}
+use Rattle.hearing.specs.declared.hearing.Hearing.the-variants.{Hunting}
+use Rattle.hearing.specs.declared.hearing.Event.{Event}
 use Rattle.tally.specs.declared.Counts.{Counts}
 use Rattle.tally.specs.declared.Tally.{Tally}
-use Rattle.tally.specs.Tally.{column, oneMore, hit, countedByte, fresh}
-use Rattle.counting.specs.Counting.{countedFrom}
-use Rattle.counting.specs.Exact.{events, behind, number, numbers}
+use Rattle.tally.specs.Tally.{column, oneMore, hit, countByte, fresh}
+use Rattle.counting.specs.Counting.{count}
+use Rattle.counting.specs.Exact.{events, hearingAfter, number, numbers}
 
 -- one column over events, from n on
 unfoldable up : ℕ → ℕ → List Event → ℕ
@@ -54,20 +54,20 @@ ups k es =
       skipped = up 7 (k .skipped) es;
     }
 
-counted-ups : (t : Tally) (bytes : List ℕ) → countedFrom t bytes .counts ≡ ups (t .counts) (events (t .hearing) bytes)
-unfolding countedFrom events up ups
+counted-ups : (t : Tally) (bytes : List ℕ) → count t bytes .counts ≡ ups (t .counts) (events (t .hearing) bytes)
+unfolding count events up ups
 counted-ups t [] = refl
-counted-ups t (b ∷ bs) = counted-ups (countedByte b t) bs
+counted-ups t (b ∷ bs) = counted-ups (countByte b t) bs
 
-pub counted-behind : (t : Tally) (bytes : List ℕ) → countedFrom t bytes .hearing ≡ behind (t .hearing) bytes
-unfolding countedFrom behind
+pub counted-behind : (t : Tally) (bytes : List ℕ) → count t bytes .hearing ≡ hearingAfter (t .hearing) bytes
+unfolding count hearingAfter
 counted-behind t [] = refl
-counted-behind t (b ∷ bs) = counted-behind (countedByte b t) bs
+counted-behind t (b ∷ bs) = counted-behind (countByte b t) bs
 
 pub events-length : (h : Hearing) (bytes : List ℕ) → length (events h bytes) ≡ length bytes
 unfolding events
 events-length h [] = refl
-events-length h (b ∷ bs) = ap suc (events-length (heardByte b h .hearing) bs)
+events-length h (b ∷ bs) = ap suc (events-length (hearByte b h .hearing) bs)
 
 module _ (bytes : List ℕ) (h : length bytes ≤ 18446744073709551615) where
   column-exact : (c : ℕ) → up c 0 (events Hunting bytes) ≡ number c (events Hunting bytes)
@@ -76,6 +76,6 @@ module _ (bytes : List ℕ) (h : length bytes ≤ 18446744073709551615) where
       up-number c 0 (events Hunting bytes) (omega (arith, events-length Hunting bytes)) in
       omega (arith, r)
 
-  pub counted-exact : countedFrom fresh bytes .counts ≡ numbers (events Hunting bytes)
+  pub counted-exact : count fresh bytes .counts ≡ numbers (events Hunting bytes)
   unfolding ups
   counted-exact = counted-ups fresh bytes ∙ simp (column-exact)

@@ -5,37 +5,37 @@ use mathlib.Core.List.{List, [], _∷_, _++_}
 use Prim.Native.Nat.{ℕ, _+_, _≤_}
 use native.Mathlib.Omega.{arith}
 use lib.ListN.{length}
-use Rattle.frame.proofs.Theorems.{fixed}
-use Rattle.reception.specs.declared.hearing.Hearing.the-variants.{Hunting}
+use Rattle.refusals.proofs.Theorems.{fixed}
+use Rattle.hearing.specs.declared.hearing.Hearing.the-variants.{Hunting}
 use Rattle.tally.specs.declared.Tally.{Tally}
 use Rattle.tally.specs.Tally.{fresh}
-use Rattle.counting.specs.Counting.{countedFrom}
-use Rattle.counting.specs.Exact.{events, behind, numbers}
+use Rattle.counting.specs.Counting.{count}
+use Rattle.counting.specs.Exact.{events, hearingAfter, numbers}
 use Rattle.counting.proofs.Laws.{count-append}
 use Rattle.counting.proofs.Exact.{counted-exact, counted-behind}
 
 -- Section 12: the promise determines its answer.
 
-pub count-determined : (t : Tally) (bytes : List ℕ) {r q : Tally} → r ≡ countedFrom t bytes → q ≡ countedFrom t bytes → r ≡ q
+pub count-determined : (t : Tally) (bytes : List ℕ) {r q : Tally} → r ≡ count t bytes → q ≡ count t bytes → r ≡ q
 count-determined t bytes = fixed
 
 -- An input read in pieces is counted as if it came whole.
-pub pieces-are-whole : (t : Tally) (a b : List ℕ) → countedFrom t (a ++ b) ≡ countedFrom (countedFrom t a) b
+pub pieces-are-whole : (t : Tally) (a b : List ℕ) → count t (a ++ b) ≡ count (count t a) b
 pieces-are-whole = count-append
 
 -- Section 9 reads at most 16,777,216 bytes. Over these each count is the number of events of its column: no count meets the largest number.
-pub counts-exact : (bytes : List ℕ) → length bytes ≤ 16777216 → countedFrom fresh bytes .counts ≡ numbers (events Hunting bytes)
+pub counts-exact : (bytes : List ℕ) → length bytes ≤ 16777216 → count fresh bytes .counts ≡ numbers (events Hunting bytes)
 counts-exact bytes h = counted-exact bytes (omega arith)
 
 -- Counting does not change what is heard.
-pub heard-the-same : (t : Tally) (bytes : List ℕ) → countedFrom t bytes .hearing ≡ behind (t .hearing) bytes
+pub heard-the-same : (t : Tally) (bytes : List ℕ) → count t bytes .hearing ≡ hearingAfter (t .hearing) bytes
 heard-the-same = counted-behind
 
 -- The example of section 9: 06 01 03 00 07 FB 55 01 02.
-pub example : countedFrom fresh (6 ∷ 1 ∷ 3 ∷ 0 ∷ 7 ∷ 251 ∷ 85 ∷ 1 ∷ 2 ∷ [])
+pub example : count fresh (6 ∷ 1 ∷ 3 ∷ 0 ∷ 7 ∷ 251 ∷ 85 ∷ 1 ∷ 2 ∷ [])
     ≡ record {
       hearing = Hunting;
       counts = record { ack = 1; nak = 0; can = 0; frames = 1; badsum = 0; badlen = 1; reserved = 0; skipped = 1 };
     }
-unfolding countedFrom
+unfolding count
 example = refl

@@ -5,11 +5,11 @@ use mathlib.Core.Path.{_≡_}
 use mathlib.Core.List.{List}
 use lib.Dec.{eqb, ltb}
 use lib.ListN.{length, drop}
-use Rattle.frame.specs.Pick.{pick}
-use Rattle.reception.specs.declared.hearing.Hearing.the-variants.{Hunting}
+use Rattle.refusals.specs.Pick.{pick}
+use Rattle.hearing.specs.declared.hearing.Hearing.the-variants.{Hunting}
 use Rattle.tally.specs.declared.Counts.{Counts}
 use Rattle.tally.specs.declared.Tally.{Tally}
-use Rattle.counting.specs.Counting.{countedFrom}
+use Rattle.counting.specs.Counting.{count}
 
 abbrev pub hunting : Counts → Tally
 hunting k = record { hearing = Hunting; counts = k }
@@ -26,10 +26,10 @@ whole kind sum check = pick (eqb check sum) (pick (ltb kind 2) 3 6) 4
 pub record Ahead (bytes : List ℕ) (t : Tally) (i : ℕ) (u : Tally) (j : ℕ) : Type 0 where
   pub on : i ≤ j
   pub within : j ≤ length bytes
-  pub same : countedFrom t (drop i bytes) ≡ countedFrom u (drop j bytes)
+  pub same : count t (drop i bytes) ≡ count u (drop j bytes)
 
 -- The same, and at least one byte is behind.
-pub record Onward (bytes : List ℕ) (t : Tally) (i : ℕ) (u : Tally) (j : ℕ) : Type 0 where
+pub record Beyond (bytes : List ℕ) (t : Tally) (i : ℕ) (u : Tally) (j : ℕ) : Type 0 where
   pub on : i < j
   pub within : j ≤ length bytes
-  pub same : countedFrom t (drop i bytes) ≡ countedFrom u (drop j bytes)
+  pub same : count t (drop i bytes) ≡ count u (drop j bytes)

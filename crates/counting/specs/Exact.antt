@@ -3,22 +3,22 @@
 use Prim.Native.Nat.{ℕ, _+_}
 use mathlib.Core.List.{List, [], _∷_}
 use lib.Dec.{eqb}
-use Rattle.frame.specs.Pick.{pick}
-use Rattle.reception.specs.Hearing.{heardByte}
-use Rattle.reception.specs.declared.hearing.Hearing.{Hearing}
-use Rattle.reception.specs.declared.hearing.Event.{Event}
+use Rattle.refusals.specs.Pick.{pick}
+use Rattle.hearing.specs.Hearing.{hearByte}
+use Rattle.hearing.specs.declared.hearing.Hearing.{Hearing}
+use Rattle.hearing.specs.declared.hearing.Event.{Event}
 use Rattle.tally.specs.declared.Counts.{Counts}
 use Rattle.tally.specs.Tally.{column}
 
 -- What the bytes are heard as, one event to a byte.
 unfoldable pub events : Hearing → List ℕ → List Event
 events h [] = []
-events h (b ∷ bs) = heardByte b h .event ∷ events (heardByte b h .hearing) bs
+events h (b ∷ bs) = hearByte b h .event ∷ events (hearByte b h .hearing) bs
 
 -- Where the hearing stands behind them.
-unfoldable pub behind : Hearing → List ℕ → Hearing
-behind h [] = h
-behind h (b ∷ bs) = behind (heardByte b h .hearing) bs
+unfoldable pub hearingAfter : Hearing → List ℕ → Hearing
+hearingAfter h [] = h
+hearingAfter h (b ∷ bs) = hearingAfter (hearByte b h .hearing) bs
 
 -- How many events are of this column.
 unfoldable pub number : ℕ → List Event → ℕ

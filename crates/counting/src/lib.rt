@@ -1,13 +1,13 @@
 // Counting (document 01, section 9): what stands in raw bytes, many bytes at once where no frame is cut short.
-use reception::Hearing;
+use hearing::Hearing;
 use tally::Counts;
 use tally::Tally;
 ghost use mathlib.Core.Path.{_≡_};
 ghost use Prim.Native.Nat.{_<_, _≤_};
 ghost use lib.ListN.{length, getD};
 ghost use Rattle.tally.specs.Tally.{added};
-ghost use Rattle.counting.specs.Counting.{countedFrom};
-ghost use Rattle.counting.specs.Ahead.{Ahead, Onward, hunting, apart, whole};
+ghost use Rattle.counting.specs.Counting.{count};
+ghost use Rattle.counting.specs.Ahead.{Ahead, Beyond, hunting, apart, whole};
 
 // Counts part of the way through the bytes: those before `at` are counted, and the hearing hunts there.
 struct Stretch {
@@ -153,7 +153,7 @@ fn hunt(counts: Counts, bytes: &[u8], start: usize) -> Stretch
 // One byte, as the link hears it, wherever the hearing stands.
 fn single(tally: Tally, bytes: &[u8], i: usize) -> Turn
     requires { ⌜ i < length (now bytes) ⌝ }
-    ensures { λ r. ⌜ Onward (now (bytes .entry)) tally i (r .tally) (r .at) ⌝ }
+    ensures { λ r. ⌜ Beyond (now (bytes .entry)) tally i (r .tally) (r .at) ⌝ }
 {
     let next = tally::count_byte(tally, bytes[i]);
     Turn {
@@ -163,7 +163,7 @@ fn single(tally: Tally, bytes: &[u8], i: usize) -> Turn
 }
 
 // These counts, and the hearing hunts.
-fn at_hunt(counts: Counts) -> Tally
+fn hunting(counts: Counts) -> Tally
     ensures { λ r. ⌜ r ≡ hunting counts ⌝ }
 {
     Tally {
@@ -175,11 +175,11 @@ fn at_hunt(counts: Counts) -> Tally
 // While hunting: as far as no frame is cut short, and there one byte.
 fn hunt_on(counts: Counts, bytes: &[u8], i: usize) -> Turn
     requires { ⌜ i < length (now bytes) ⌝ }
-    ensures { λ r. ⌜ Onward (now (bytes .entry)) (hunting counts) i (r .tally) (r .at) ⌝ }
+    ensures { λ r. ⌜ Beyond (now (bytes .entry)) (hunting counts) i (r .tally) (r .at) ⌝ }
 {
     let s = hunt(counts, bytes, i);
     let at = s.at;
-    let t = at_hunt(s.counts);
+    let t = hunting(s.counts);
     if at < bytes.len() {
         return single(t, bytes, at);
     }
@@ -188,7 +188,7 @@ fn hunt_on(counts: Counts, bytes: &[u8], i: usize) -> Turn
 
 fn turned(tally: Tally, bytes: &[u8], i: usize) -> Turn
     requires { ⌜ i < length (now bytes) ⌝ }
-    ensures { λ r. ⌜ Onward (now (bytes .entry)) tally i (r .tally) (r .at) ⌝ }
+    ensures { λ r. ⌜ Beyond (now (bytes .entry)) tally i (r .tally) (r .at) ⌝ }
 {
     let hearing = tally.hearing;
     match hearing {
@@ -199,7 +199,7 @@ fn turned(tally: Tally, bytes: &[u8], i: usize) -> Turn
 
 // The tally after these bytes.
 pub fn count(tally: Tally, bytes: &[u8]) -> Tally
-    ensures { λ r. ⌜ r ≡ countedFrom tally (now (bytes .entry)) ⌝ }
+    ensures { λ r. ⌜ r ≡ count tally (now (bytes .entry)) ⌝ }
 {
     let mut t = Turn {
         tally: tally,

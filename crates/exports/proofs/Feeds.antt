@@ -12,26 +12,26 @@ use native.Mathlib.Numerals.{add-one}
 use native.Mathlib.Omega.{arith}
 use lib.ListN.{length, drop, getD, drop-of-length-le}
 use lib.Seq.{drop-cons}
-use Rattle.job.specs.Rules.{base}
-use Rattle.link.specs.Step.{Out, byteOut, tickOut, openOut}
-use Rattle.step.specs.Checks.{checks, sessionChecks}
+use Rattle.rules.specs.Rules.{base}
+use Rattle.link.specs.Out.{Out, byteOut, tickOut, openOut}
+use Rattle.step.specs.Checks.{checks, sessionOwn}
 use Rattle.step.specs.declared.checks.Checked.{Checked}
 use Rattle.step.specs.declared.checks.Checked.the-variants.{Passes}
-use Rattle.link.specs.Calls.{Call}
-use Rattle.link.specs.declared.state.Link.{Link}
-use Rattle.link.specs.State.{freshLink}
+use Rattle.link.specs.Calls.{CallPromise}
+use Rattle.link.specs.declared.link.Link.{Link}
+use Rattle.link.specs.Link.{freshLink}
 use Rattle.link.specs.declared.calls.Answered.{Answered}
 use Rattle.job.specs.declared.job.Asking.the-variants.{Asks}
 use Rattle.frame.specs.Frame.{frameOf}
-use Rattle.exports.specs.Numbers.{mixed, answerNumber}
-use Rattle.exports.specs.Feeding.{Fed, at, afterCall, byteFed, tickFed, bytesFed, ticksFed, opened, asked, unsummed, heardFed, Ended}
+use Rattle.exports.specs.Numbers.{mix, answerNumber}
+use Rattle.exports.specs.Feeding.{Fed, at, afterCall, byteFed, tickFed, bytesFed, ticksFed, opened, asked, unsummed, heardFed, FedTo}
 
 pub same-checks : (own : Checked) (line up line₀ up₀ : List ℕ) → length line ≡ length line₀ → length up ≡ length up₀
     → checks line up own ≡ checks line₀ up₀ own
 same-checks own line up line₀ up₀ p q = simp (p, q)
 
 fed : (own k : Checked) (o : Out) (l : Link) (line up line′ up′ : List ℕ) (r : Answered) (s n m : ℕ)
-    → checks line up own ≡ k → Call own o l line up r line′ up′ → n ≡ mixed s m → m ≡ answerNumber (r .answer)
+    → checks line up own ≡ k → CallPromise own o l line up r line′ up′ → n ≡ mix s m → m ≡ answerNumber (r .answer)
     → afterCall k o (at l line up s) ≡ at (r .link) line′ up′ n
 fed own k o l line up line′ up′ r s n m e p q a = simp (← e, q, a, p .answer, p .line-left, p .up-left)
 
@@ -54,7 +54,7 @@ module _ (line₀ up₀ : List ℕ) (l : Link) (line up : List ℕ) (s : ℕ) wh
 
     pub bytes-on : (line′ up′ : List ℕ) (r : Answered) (n m : ℕ) → i < length bytes
         → length line ≡ length line₀ → length up ≡ length up₀
-        → Call Passes (byteOut base l (getD bytes i 0)) l line up r line′ up′ → n ≡ mixed s m → m ≡ answerNumber (r .answer)
+        → CallPromise Passes (byteOut base l (getD bytes i 0)) l line up r line′ up′ → n ≡ mix s m → m ≡ answerNumber (r .answer)
         → bytesFed k f (drop i bytes) ≡ bytesFed k (at (r .link) line′ up′ n) (drop (i + 1) bytes)
     bytes-on line′ up′ r n m h p q x e a =
         bytes-more h
@@ -74,14 +74,14 @@ module _ (line₀ up₀ : List ℕ) (l : Link) (line up : List ℕ) (s : ℕ) wh
 
     pub ticks-on : (line′ up′ : List ℕ) (r : Answered) (t m : ℕ) → i < n
         → length line ≡ length line₀ → length up ≡ length up₀
-        → Call Passes (tickOut base l) l line up r line′ up′ → t ≡ mixed s m → m ≡ answerNumber (r .answer)
+        → CallPromise Passes (tickOut base l) l line up r line′ up′ → t ≡ mix s m → m ≡ answerNumber (r .answer)
         → ticksFed k f (n - i) ≡ ticksFed k (at (r .link) line′ up′ t) (n - (i + 1))
     ticks-on line′ up′ r t m h p q x e a =
         ticks-more h
         ∙ ap (λ (g : Fed). ticksFed k g (n - (i + 1))) (fed Passes k (tickOut base l) l line up line′ up′ r s t m (same-checks Passes line up line₀ up₀ p q) x e a)
 
 -- what is reached is what is answered
-pub ended : (f : Fed) (l : Link) (line up : List ℕ) (s : ℕ) → f ≡ at l line up s → Ended f s line up
+pub ended : (f : Fed) (l : Link) (line up : List ℕ) (s : ℕ) → f ≡ at l line up s → FedTo f s line up
 ended f l line up s e =
     record {
       answer = sym (ap (λ (g : Fed). g .sum) e);
@@ -92,7 +92,7 @@ ended f l line up s e =
 -- ---- before the ticks
 module _ (ps line up : List ℕ) (l : Link) (fresh : l ≡ freshLink) where
   pub asked-on : (asks : Bool) (line′ up′ : List ℕ) (r : Answered) → asks ≡ true
-      → Call (sessionChecks (l .core .job) (length ps)) (openOut l (Asks 7) (frameOf 0 7 ps)) l line up r line′ up′
+      → CallPromise (sessionOwn (l .core .job) (length ps)) (openOut l (Asks 7) (frameOf 0 7 ps)) l line up r line′ up′
       → asked asks ps (opened line up) ≡ at (r .link) line′ up′ 0
   asked-on asks line′ up′ r e x = simp (e, x .answer, x .line-left, x .up-left, fresh)
 
@@ -106,7 +106,7 @@ heard-on bs f l l′ line up line′ up′ s e x = ap (heardFed bs) e ∙ ap uns
 -- ticks on a link that was made ready
 pub ready-ticks : (f : Fed) (l : Link) (line up line₀ up₀ line′ up′ : List ℕ) (n r : ℕ)
     → length line ≡ length line₀ → length up ≡ length up₀ → f ≡ at l line up 0
-    → Ended (ticksFed (checks line up Passes) (at l line up 0) n) r line′ up′ → Ended (ticksFed (checks line₀ up₀ Passes) f n) r line′ up′
+    → FedTo (ticksFed (checks line up Passes) (at l line up 0) n) r line′ up′ → FedTo (ticksFed (checks line₀ up₀ Passes) f n) r line′ up′
 ready-ticks f l line up line₀ up₀ line′ up′ n r p q x y =
     let e : ticksFed (checks line up Passes) (at l line up 0) n ≡ ticksFed (checks line₀ up₀ Passes) f n =
     ap (λ (z : Checked). ticksFed z (at l line up 0) n) (same-checks Passes line up line₀ up₀ p q)

@@ -11,16 +11,16 @@ use lib.Dec.{eqb}
 use lib.ListN.{length, take, drop, length-drop, length-take, drop-of-length-le}
 use lib.Seq.{drop-drop}
 use borrow.Author.Tests.{eq-eqb, ne-eqb}
-use Rattle.frame.specs.Pick.{pick}
-use Rattle.job.specs.Rules.{base}
-use Rattle.link.specs.Step.{Out, Taken, byteOut, news, runFrom, runOut, quiet}
+use Rattle.refusals.specs.Pick.{pick}
+use Rattle.rules.specs.Rules.{base}
+use Rattle.link.specs.Out.{Out, Taken, byteOut, news, runFrom, runOut, quiet}
 use Rattle.step.specs.Checks.{checks}
 use Rattle.step.specs.declared.checks.Checked.{Checked}
 use Rattle.step.specs.declared.checks.Checked.the-variants.{Passes, Refuses}
-use Rattle.link.specs.Calls.{ran, Run}
-use Rattle.link.specs.declared.state.Link.{Link}
+use Rattle.link.specs.Calls.{ran, RunPromise}
+use Rattle.link.specs.declared.link.Link.{Link}
 use Rattle.link.specs.declared.calls.Ran.{Ran}
-use Rattle.exports.specs.Numbers.{mixed, runNumber, takenBy}
+use Rattle.exports.specs.Numbers.{mix, runNumber, runTaken}
 use Rattle.exports.specs.Feeding.{Fed, at, part, ranBy, runFed, runsFed}
 use Rattle.exports.proofs.Feeds.{same-checks}
 
@@ -39,7 +39,7 @@ from-most o n (b ∷ bs) =
     let rest = from-most next (n + 1) bs in
     pick-ok (λ (t : Taken). t .taken ≤ n + suc (length bs)) (news next) (record { out = next; taken = n + 1 }) (runFrom base next (n + 1) bs) (omega arith) (omega (arith, rest))
 
-pub taken-most : (k : Checked) (l : Link) (bs : List ℕ) → takenBy (ran k (runOut base l bs) l .answer) ≤ length bs
+pub taken-most : (k : Checked) (l : Link) (bs : List ℕ) → runTaken (ran k (runOut base l bs) l .answer) ≤ length bs
 taken-most Passes l bs = let h = from-most (quiet l) 0 bs in omega (arith, h)
 taken-most (Refuses x) l bs = omega arith
 
@@ -69,7 +69,7 @@ module _ (line₀ up₀ : List ℕ) (most : ℕ) (input : List ℕ) where
     runs-end zero h = refl
     runs-end (suc n) h = simp (drop-of-length-le input h)
 
-    module _ (bytes line′ up′ : List ℕ) (r : Ran) (number taken n m : ℕ) (is : bytes ≡ part most rest) (p : length line ≡ length line₀) (q : length up ≡ length up₀) (x : Run (runOut base l bytes) l line up r line′ up′) (a : number ≡ runNumber (r .answer)) (t : taken ≡ takenBy (r .answer)) (e : n ≡ mixed s number) (g : m ≡ mixed n taken) where
+    module _ (bytes line′ up′ : List ℕ) (r : Ran) (number taken n m : ℕ) (is : bytes ≡ part most rest) (p : length line ≡ length line₀) (q : length up ≡ length up₀) (x : RunPromise (runOut base l bytes) l line up r line′ up′) (a : number ≡ runNumber (r .answer)) (t : taken ≡ runTaken (r .answer)) (e : n ≡ mix s number) (g : m ≡ mix n taken) where
       abbrev own : Checked
       own = checks line up Passes
 
@@ -79,8 +79,8 @@ module _ (line₀ up₀ : List ℕ) (most : ℕ) (input : List ℕ) where
       ran-as : r ≡ ranBy k f (part most rest)
       ran-as = x .answer ∙ ap (λ (z : Checked). ranBy z f bytes) same ∙ ap (ranBy k f) is
 
-      took : taken ≡ takenBy (ranBy k f (part most rest) .answer)
-      took = t ∙ ap (λ (z : Ran). takenBy (z .answer)) ran-as
+      took : taken ≡ runTaken (ranBy k f (part most rest) .answer)
+      took = t ∙ ap (λ (z : Ran). runTaken (z .answer)) ran-as
 
       pub taken-left : taken ≤ length input - i
       taken-left =
@@ -104,7 +104,7 @@ module _ (line₀ up₀ : List ℕ) (most : ℕ) (input : List ℕ) where
       pub runs-stop : (fuel : ℕ) → i < length input → 0 < fuel → taken ≡ 0 → runsFed fuel k most f rest ≡ at (r .link) line′ up′ m
       unfolding runsFed
       runs-stop zero h lt z = absurd (omega (arith, lt))
-      runs-stop (suc fuel) h lt z = rw (some h) (rw (eq-eqb (takenBy (ranBy k f (part most rest) .answer)) 0 (sym took ∙ z)) run-as)
+      runs-stop (suc fuel) h lt z = rw (some h) (rw (eq-eqb (runTaken (ranBy k f (part most rest) .answer)) 0 (sym took ∙ z)) run-as)
 
       pub runs-on : (fuel : ℕ) → i < length input → 0 < fuel → (taken ≡ 0 → ⊥)
           → runsFed fuel k most f rest ≡ runsFed (fuel - 1) k most (at (r .link) line′ up′ m) (drop (i + taken) input)
@@ -113,8 +113,8 @@ module _ (line₀ up₀ : List ℕ) (most : ℕ) (input : List ℕ) where
       runs-on (suc fuel) h lt z =
           let d : suc fuel - 1 ≡ fuel = omega arith in
           rw (some h)
-          (rw (ne-eqb (takenBy (ranBy k f (part most rest) .answer)) 0 (λ w. z (took ∙ w)))
-          (ap (λ (y : Fed). runsFed fuel k most y (drop (takenBy (ranBy k f (part most rest) .answer)) rest)) run-as
+          (rw (ne-eqb (runTaken (ranBy k f (part most rest) .answer)) 0 (λ w. z (took ∙ w)))
+          (ap (λ (y : Fed). runsFed fuel k most y (drop (runTaken (ranBy k f (part most rest) .answer)) rest)) run-as
           ∙ ap (λ (y : ℕ). runsFed fuel k most (at (r .link) line′ up′ m) (drop y rest)) (sym took)
           ∙ ap (runsFed fuel k most (at (r .link) line′ up′ m)) (drop-drop taken i input)
           ∙ ap (λ (y : ℕ). runsFed y k most (at (r .link) line′ up′ m) (drop (i + taken) input)) (sym d)))

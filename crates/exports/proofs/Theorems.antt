@@ -7,22 +7,22 @@
 use mathlib.Core.Path.{_≡_}
 use mathlib.Core.List.{List}
 use Prim.Native.Nat.{ℕ}
-use Rattle.frame.proofs.Theorems.{fixed}
-use Rattle.reading.specs.Reader.{readingOf}
+use Rattle.refusals.proofs.Theorems.{fixed}
+use Rattle.reading.specs.Reader.{read}
 use Rattle.tally.specs.Tally.{fresh}
-use Rattle.counting.specs.Counting.{countedFrom}
+use Rattle.counting.specs.Counting.{count}
 use Rattle.exports.specs.Numbers.{readingNumber, BuiltAs, countsOf}
-use Rattle.exports.specs.Feeding.{Fed, Ended}
+use Rattle.exports.specs.Feeding.{Fed, FedTo}
 
-pub ended-determined : {f : Fed} {r q : ℕ} {a b c d : List ℕ} → Ended f r a b → Ended f q c d → (r ≡ q) × (a ≡ c) × (b ≡ d)
+pub ended-determined : {f : Fed} {r q : ℕ} {a b c d : List ℕ} → FedTo f r a b → FedTo f q c d → (r ≡ q) × (a ≡ c) × (b ≡ d)
 ended-determined x y = (fixed (x .answer) (y .answer), fixed (x .line-left) (y .line-left), fixed (x .up-left) (y .up-left))
 
 pub built-determined : {kind command : ℕ} {ps lent : List ℕ} {r q : ℕ} {a b : List ℕ}
     → BuiltAs kind command ps lent r a → BuiltAs kind command ps lent q b → (r ≡ q) × (a ≡ b)
 built-determined x y = (fixed (x .answer) (y .answer), fixed (x .left) (y .left))
 
-pub read-determined : (bytes : List ℕ) {r q : ℕ} → r ≡ readingNumber (readingOf bytes) → q ≡ readingNumber (readingOf bytes) → r ≡ q
+pub read-determined : (bytes : List ℕ) {r q : ℕ} → r ≡ readingNumber (read bytes) → q ≡ readingNumber (read bytes) → r ≡ q
 read-determined bytes = fixed
 
-pub count-determined : (input : List ℕ) {a b : List ℕ} → a ≡ countsOf (countedFrom fresh input) → b ≡ countsOf (countedFrom fresh input) → a ≡ b
+pub count-determined : (input : List ℕ) {a b : List ℕ} → a ≡ countsOf (count fresh input) → b ≡ countsOf (count fresh input) → a ≡ b
 count-determined input = fixed

@@ -6,19 +6,19 @@ use mathlib.Core.Bool.{Bool}
 use mathlib.Core.List.{List, [], _∷_}
 use lib.Dec.{eqb}
 use lib.ListN.{length, take, drop}
-use Rattle.frame.specs.Pick.{pick}
+use Rattle.refusals.specs.Pick.{pick}
 use Rattle.frame.specs.Frame.{frameOf}
-use Rattle.job.specs.Rules.{base}
-use Rattle.link.specs.State.{freshLink}
-use Rattle.link.specs.Step.{Out, byteOut, tickOut, openOut, runOut}
-use Rattle.step.specs.Checks.{checks, sessionChecks}
+use Rattle.rules.specs.Rules.{base}
+use Rattle.link.specs.Link.{freshLink}
+use Rattle.link.specs.Out.{Out, byteOut, tickOut, openOut, runOut}
+use Rattle.step.specs.Checks.{checks, sessionOwn}
 use Rattle.step.specs.declared.checks.Checked.{Checked}
 use Rattle.step.specs.declared.checks.Checked.the-variants.{Passes}
 use Rattle.link.specs.Calls.{answered, ran, left}
-use Rattle.link.specs.declared.state.Link.{Link}
+use Rattle.link.specs.declared.link.Link.{Link}
 use Rattle.link.specs.declared.calls.Ran.{Ran}
 use Rattle.job.specs.declared.job.Asking.the-variants.{Asks}
-use Rattle.exports.specs.Numbers.{mixed, answerNumber, runNumber, takenBy}
+use Rattle.exports.specs.Numbers.{mix, answerNumber, runNumber, runTaken}
 
 -- the link, the lent buffers, and the number so far
 pub record Fed : Type 0 where
@@ -34,12 +34,12 @@ abbrev pub opened : List ℕ → List ℕ → Fed
 opened line up = at freshLink line up 0
 
 -- after a call that answers r and gives o under these checks, with n mixed into the number
-abbrev pub after : Checked → Out → Link → ℕ → Fed → Fed
-after k o l n f = at l (left k (o .line) (f .line)) (left k (o .up) (f .up)) n
+abbrev pub afterAll : Checked → Out → Link → ℕ → Fed → Fed
+afterAll k o l n f = at l (left k (o .line) (f .line)) (left k (o .up) (f .up)) n
 
 abbrev pub afterCall : Checked → Out → Fed → Fed
 afterCall k o f =
-    after k o (answered k o (f .link) .link) (mixed (f .sum) (answerNumber (answered k o (f .link) .answer))) f
+    afterAll k o (answered k o (f .link) .link) (mix (f .sum) (answerNumber (answered k o (f .link) .answer))) f
 
 -- Every call checks for ROOM, and none changes a buffer's length: so k, of the buffers as they were lent, is for all calls.
 abbrev pub byteFed : Checked → Fed → ℕ → Fed
@@ -54,8 +54,8 @@ ranBy k f bs = ran k (runOut base (f .link) bs) (f .link)
 
 abbrev pub runFed : Checked → Fed → List ℕ → Fed
 runFed k f bs =
-    after k (runOut base (f .link) bs .out) (ranBy k f bs .link)
-    (mixed (mixed (f .sum) (runNumber (ranBy k f bs .answer))) (takenBy (ranBy k f bs .answer))) f
+    afterAll k (runOut base (f .link) bs .out) (ranBy k f bs .link)
+    (mix (mix (f .sum) (runNumber (ranBy k f bs .answer))) (runTaken (ranBy k f bs .answer))) f
 
 -- every byte in a call of its own
 unfoldable pub bytesFed : Checked → Fed → List ℕ → Fed
@@ -76,15 +76,15 @@ unfoldable pub runsFed : ℕ → Checked → ℕ → Fed → List ℕ → Fed
 runsFed zero k most f bs = f
 runsFed (suc n) k most f bs =
     pick (eqb (length bs) 0) f
-    (pick (eqb (takenBy (ranBy k f (part most bs) .answer)) 0) (runFed k f (part most bs))
-    (runsFed n k most (runFed k f (part most bs)) (drop (takenBy (ranBy k f (part most bs) .answer)) bs)))
+    (pick (eqb (runTaken (ranBy k f (part most bs) .answer)) 0) (runFed k f (part most bs))
+    (runsFed n k most (runFed k f (part most bs)) (drop (runTaken (ranBy k f (part most bs) .answer)) bs)))
 
 -- a session asked for, or not, with command 7; nothing is mixed in
 abbrev pub asked : Bool → List ℕ → Fed → Fed
 asked asks ps f =
     pick asks
-    (after (checks (f .line) (f .up) (sessionChecks (f .link .core .job) (length ps))) (openOut (f .link) (Asks 7) (frameOf 0 7 ps))
-    (answered (checks (f .line) (f .up) (sessionChecks (f .link .core .job) (length ps))) (openOut (f .link) (Asks 7) (frameOf 0 7 ps)) (f .link) .link)
+    (afterAll (checks (f .line) (f .up) (sessionOwn (f .link .core .job) (length ps))) (openOut (f .link) (Asks 7) (frameOf 0 7 ps))
+    (answered (checks (f .line) (f .up) (sessionOwn (f .link .core .job) (length ps))) (openOut (f .link) (Asks 7) (frameOf 0 7 ps)) (f .link) .link)
     (f .sum) f)
     f
 
@@ -97,7 +97,7 @@ abbrev pub heardFed : List ℕ → Fed → Fed
 heardFed bs f = unsummed (bytesFed (checks (f .line) (f .up) Passes) f bs)
 
 -- what an exported call answers, and leaves in the lent buffers
-pub record Ended (f : Fed) (r : ℕ) (line′ up′ : List ℕ) : Type 0 where
+pub record FedTo (f : Fed) (r : ℕ) (line′ up′ : List ℕ) : Type 0 where
   pub answer : r ≡ f .sum
   pub line-left : line′ ≡ f .line
   pub up-left : up′ ≡ f .up

@@ -4,19 +4,19 @@ use Prim.Native.Nat.{ℕ, _+_, _*_, _%_, _^_}
 use mathlib.Core.Path.{_≡_}
 use mathlib.Core.List.{List, [], _∷_}
 use lib.ListN.{length}
-use Rattle.frame.specs.Refusals.{numberOf}
+use Rattle.refusals.specs.Refusals.{numberOf}
 use Rattle.frame.specs.Builder.{builtOf, leftBy}
 use Rattle.frame.specs.Frame.{frameOf}
 use Rattle.frame.specs.declared.builder.Built.{Built}
 use Rattle.frame.specs.declared.builder.Built.the-variants as built
-use Rattle.frame.specs.declared.refusal.Refusal.{Refusal}
+use Rattle.refusals.specs.declared.Refusal.{Refusal}
 use Rattle.reading.specs.declared.reader.Reading.{Reading}
 use Rattle.reading.specs.declared.reader.Reading.the-variants as reading
-use Rattle.report.specs.declared.report.Reception.{Reception}
-use Rattle.job.specs.declared.report.Sending.{Sending}
-use Rattle.job.specs.declared.report.Session.{Session}
-use Rattle.job.specs.declared.report.Reset.{Reset}
-use Rattle.report.specs.declared.report.Report.{Report}
+use Rattle.report.specs.declared.Reception.{Reception}
+use Rattle.report.specs.declared.Sending.{Sending}
+use Rattle.report.specs.declared.Session.{Session}
+use Rattle.report.specs.declared.Reset.{Reset}
+use Rattle.report.specs.declared.Report.{Report}
 use Rattle.report.specs.Told.{receptionCase, sendingCase, sendingValue, sessionCase, sessionValue, resetCase}
 use Rattle.link.specs.declared.calls.Answer.{Answer}
 use Rattle.link.specs.declared.calls.Answer.the-variants as answer
@@ -26,8 +26,8 @@ use Rattle.tally.specs.Tally.{openBytes}
 use Rattle.tally.specs.declared.Tally.{Tally}
 
 -- One number more: three times the sum and the number, modulo 2 ^ 64.
-abbrev pub mixed : ℕ → ℕ → ℕ
-mixed sum n = (((sum + sum) % 2 ^ 64 + sum) % 2 ^ 64 + n) % 2 ^ 64
+abbrev pub mix : ℕ → ℕ → ℕ
+mix sum n = (((sum + sum) % 2 ^ 64 + sum) % 2 ^ 64 + n) % 2 ^ 64
 
 -- A refused call: a million and the refusal's number.
 abbrev pub refusedNumber : Refusal → ℕ
@@ -48,9 +48,9 @@ resetNumber r = resetCase r
 
 abbrev pub reportNumber : Report → ℕ
 reportNumber r =
-    mixed
-    (mixed
-    (mixed (mixed (mixed (receptionNumber (r .reception)) (sendingNumber (r .sending))) (sessionNumber (r .session))) (resetNumber (r .reset)))
+    mix
+    (mix
+    (mix (mix (mix (receptionNumber (r .reception)) (sendingNumber (r .sending))) (sessionNumber (r .session))) (resetNumber (r .reset)))
     (r .line))
     (r .up)
 
@@ -63,9 +63,9 @@ runNumber (run.Refused k) = refusedNumber k
 runNumber (run.Done r n) = reportNumber r
 
 -- how many bytes a run took; a refused one none
-abbrev pub takenBy : RunAnswer → ℕ
-takenBy (run.Refused k) = 0
-takenBy (run.Done r n) = n
+abbrev pub runTaken : RunAnswer → ℕ
+runTaken (run.Refused k) = 0
+runTaken (run.Done r n) = n
 
 abbrev pub builtNumber : Built → ℕ
 builtNumber (built.Refused k) = refusedNumber k

@@ -1,5 +1,5 @@
 // Building and reading a frame.
-use crate::sums::REFUSED;
+use crate::numbers::REFUSED;
 use frame::Built;
 use reading::Reading;
 ghost use mathlib.Core.Path.{_≡_};
@@ -11,7 +11,7 @@ fn built_number(built: Built) -> u64
     ensures { λ r. ⌜ r ≡ spec.builtNumber built ⌝ }
 {
     match built {
-        Built::Refused(refusal) => REFUSED + (frame::number(refusal) as u64),
+        Built::Refused(refusal) => REFUSED + (refusals::number_of(refusal) as u64),
         Built::Frame(n) => n as u64,
     }
 }
@@ -20,7 +20,7 @@ fn reading_number(reading: Reading) -> u64
     ensures { λ r. ⌜ r ≡ spec.readingNumber reading ⌝ }
 {
     match reading {
-        Reading::Refused(refusal) => REFUSED + (frame::number(refusal) as u64),
+        Reading::Refused(refusal) => REFUSED + (refusals::number_of(refusal) as u64),
         Reading::Parts {
             kind,
             command,

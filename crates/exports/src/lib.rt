@@ -2,4 +2,4 @@
 mod counts;
 mod frames;
 mod runs;
-mod sums;
+mod numbers;

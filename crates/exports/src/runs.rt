@@ -1,39 +1,29 @@
 // Whole inputs given to a fresh link, call by call. What the calls told comes back as one number.
-use crate::sums::answer_number;
-use crate::sums::mix;
-use crate::sums::told;
+use crate::numbers::answer_number;
+use crate::numbers::mix;
+use crate::numbers::tale_of;
 use link::Link;
 ghost use mathlib.Core.Path.{_≡_};
-ghost use Prim.Native.Nat.{min};
 ghost use lib.ListN.{length};
 ghost use Rattle.step.specs.Checks.{checks};
 ghost use Rattle.step.specs.declared.checks.Checked.the-variants.{Passes};
-ghost use Rattle.exports.specs.Feeding.{Ended, at, opened, asked, heardFed, bytesFed, ticksFed, runsFed};
-
-fn least(a: usize, b: usize) -> usize
-    ensures { λ r. ⌜ r ≡ min a b ⌝ }
-{
-    if a <= b {
-        return a;
-    }
-    b
-}
+ghost use Rattle.exports.specs.Feeding.{FedTo, at, opened, asked, heardFed, bytesFed, ticksFed, runsFed};
 
 // Runs of at most so many bytes, until all are taken.
 #[no_mangle]
 pub extern "C" fn sarnaqel_runs(input: &[u8], most: usize, line: &mut [u8], up: &mut [u8]) -> u64
-    ensures { λ r. ⌜ Ended (runsFed (length (now (input .entry))) (checks (now (line .entry)) (now (up .entry)) Passes) most (opened (now (line .entry)) (now (up .entry))) (now (input .entry))) r (now (line .exit)) (now (up .exit)) ⌝ }
+    ensures { λ r. ⌜ FedTo (runsFed (length (now (input .entry))) (checks (now (line .entry)) (now (up .entry)) Passes) most (opened (now (line .entry)) (now (up .entry))) (now (input .entry))) r (now (line .exit)) (now (up .exit)) ⌝ }
 {
     let mut link = Link::open();
     let mut sum = 0;
     let mut at = 0;
     while at < input.len() {
         let left = input.len() - at;
-        let end = at + least(left, most);
+        let end = at + frame::least(left, most);
         let ran = link.bytes(&input[at..end], line, up);
         link = ran.link;
         let answer = ran.answer;
-        let run = told(answer);
+        let run = tale_of(answer);
         sum = mix(mix(sum, run.number), run.taken as u64);
         let taken = run.taken;
         if taken == 0 {
@@ -51,7 +41,7 @@ struct Reached {
 }
 
 // Every byte in a call of its own. Every call of a link has one place in this module, since LLVM inlines what is called once.
-fn fed(start: Link, input: &[u8], line: &mut [u8], up: &mut [u8]) -> Reached
+fn bytes_fed(start: Link, input: &[u8], line: &mut [u8], up: &mut [u8]) -> Reached
     ensures { λ r. ⌜ bytesFed (checks (now (line .entry)) (now (up .entry)) Passes) (at start (now (line .entry)) (now (up .entry)) 0) (now (input .entry)) ≡ at (r .link) (now (line .exit)) (now (up .exit)) (r .sum) ⌝ }
 {
     let mut link = start;
@@ -73,15 +63,15 @@ fn fed(start: Link, input: &[u8], line: &mut [u8], up: &mut [u8]) -> Reached
 // A fresh link that is fed so.
 #[no_mangle]
 pub extern "C" fn sarnaqel_bytes(input: &[u8], line: &mut [u8], up: &mut [u8]) -> u64
-    ensures { λ r. ⌜ Ended (bytesFed (checks (now (line .entry)) (now (up .entry)) Passes) (opened (now (line .entry)) (now (up .entry))) (now (input .entry))) r (now (line .exit)) (now (up .exit)) ⌝ }
+    ensures { λ r. ⌜ FedTo (bytesFed (checks (now (line .entry)) (now (up .entry)) Passes) (opened (now (line .entry)) (now (up .entry))) (now (input .entry))) r (now (line .exit)) (now (up .exit)) ⌝ }
 {
     let fresh = Link::open();
-    let reached = fed(fresh, input, line, up);
+    let reached = bytes_fed(fresh, input, line, up);
     reached.sum
 }
 
 // A fresh link on which a session is asked for, or not.
-fn begun(asks: bool, parameters: &[u8], line: &mut [u8], up: &mut [u8]) -> Link
+fn asked(asks: bool, parameters: &[u8], line: &mut [u8], up: &mut [u8]) -> Link
     ensures { λ r. ⌜ asked asks (now (parameters .entry)) (opened (now (line .entry)) (now (up .entry))) ≡ at r (now (line .exit)) (now (up .exit)) 0 ⌝ }
 {
     let fresh = Link::open();
@@ -94,17 +84,17 @@ fn begun(asks: bool, parameters: &[u8], line: &mut [u8], up: &mut [u8]) -> Link
 }
 
 // The same, and then it hears these bytes.
-fn prepared(asks: bool, parameters: &[u8], heard: &[u8], line: &mut [u8], up: &mut [u8]) -> Link
+fn heard_fed(asks: bool, parameters: &[u8], heard: &[u8], line: &mut [u8], up: &mut [u8]) -> Link
     ensures { λ r. ⌜ heardFed (now (heard .entry)) (asked asks (now (parameters .entry)) (opened (now (line .entry)) (now (up .entry)))) ≡ at r (now (line .exit)) (now (up .exit)) 0 ⌝ }
 {
-    let link = begun(asks, parameters, line, up);
-    let reached = fed(link, heard, line, up);
+    let link = asked(asks, parameters, line, up);
+    let reached = bytes_fed(link, heard, line, up);
     reached.link
 }
 
 // So many ticks.
-fn ticked(start: Link, n: u64, line: &mut [u8], up: &mut [u8]) -> u64
-    ensures { λ r. ⌜ Ended (ticksFed (checks (now (line .entry)) (now (up .entry)) Passes) (at start (now (line .entry)) (now (up .entry)) 0) n) r (now (line .exit)) (now (up .exit)) ⌝ }
+fn ticks_fed(start: Link, n: u64, line: &mut [u8], up: &mut [u8]) -> u64
+    ensures { λ r. ⌜ FedTo (ticksFed (checks (now (line .entry)) (now (up .entry)) Passes) (at start (now (line .entry)) (now (up .entry)) 0) n) r (now (line .exit)) (now (up .exit)) ⌝ }
 {
     let mut link = start;
     let mut sum = 0;
@@ -129,8 +119,8 @@ pub extern "C" fn sarnaqel_ticks(
     line: &mut [u8],
     up: &mut [u8],
 ) -> u64
-    ensures { λ r. ⌜ Ended (ticksFed (checks (now (line .entry)) (now (up .entry)) Passes) (heardFed (now (heard .entry)) (asked asks (now (parameters .entry)) (opened (now (line .entry)) (now (up .entry))))) n) r (now (line .exit)) (now (up .exit)) ⌝ }
+    ensures { λ r. ⌜ FedTo (ticksFed (checks (now (line .entry)) (now (up .entry)) Passes) (heardFed (now (heard .entry)) (asked asks (now (parameters .entry)) (opened (now (line .entry)) (now (up .entry))))) n) r (now (line .exit)) (now (up .exit)) ⌝ }
 {
-    let link = prepared(asks, parameters, heard, line, up);
-    ticked(link, n, line, up)
+    let link = heard_fed(asks, parameters, heard, line, up);
+    ticks_fed(link, n, line, up)
 }

@@ -8,7 +8,7 @@ use native.Mathlib.Nat.{le-refl}
 use native.Mathlib.Omega.{arith}
 use lib.ListN.{length, take, drop, set, length-set}
 use lib.Seq.{paste, take-at, take-length}
-use Rattle.frame.specs.Bytes.{over, xorAll, Laid}
+use Rattle.frame.specs.Bytes.{over, fold, Lay}
 use Rattle.frame.specs.Frame.{counted, checksum, frameOf}
 use Rattle.frame.proofs.Over.{put-byte, put-bytes, laid-in}
 
@@ -28,7 +28,7 @@ head-over d a b k m h =
 
 -- the parameters behind them
 pub laid-over : (d ps : List ℕ) (kind command : ℕ) {r : Bool} {d′ : List ℕ} → length ps + 5 ≤ length d
-    → Laid ps (length ps) (headed d 1 (length ps + 3) kind command) 4 r d′ → d′ ≡ over (1 ∷ counted kind command ps) d
+    → Lay ps (length ps) (headed d 1 (length ps + 3) kind command) 4 r d′ → d′ ≡ over (1 ∷ counted kind command ps) d
 laid-over d ps kind command h laid =
     laid-in (le-refl (length ps)) (simp length-set (omega arith)) laid
     ∙ ap (λ (l : List ℕ). paste l 4 ps (length ps)) (head-over d 1 (length ps + 3) kind command (omega arith))
@@ -38,14 +38,14 @@ laid-over d ps kind command h laid =
 -- and the checksum of what stands there
 pub framed-over : (d ps : List ℕ) (kind command v : ℕ) {d′ : List ℕ} → length ps + 5 ≤ length d
     → d′ ≡ over (1 ∷ counted kind command ps) d
-    → v ≡ xorAll 255 (take (length ps + 4 - 1) (drop 1 d′))
+    → v ≡ fold 255 (take (length ps + 4 - 1) (drop 1 d′))
     → set d′ (length ps + 4) v ≡ over (frameOf kind command ps) d
 unfolding frameOf
 framed-over d ps kind command v {d′} h e f =
     let n : length (counted kind command ps) ≡ length ps + 4 - 1 = omega arith in
     let s : v ≡ checksum (counted kind command ps) =
-    f ∙ ap (λ (l : List ℕ). xorAll 255 (take (length ps + 4 - 1) (drop 1 l))) e
-    ∙ ap (λ (l : List ℕ). xorAll 255 l) (take-at (counted kind command ps) (drop (length (1 ∷ counted kind command ps)) d) (length ps + 4 - 1) n) in
+    f ∙ ap (λ (l : List ℕ). fold 255 (take (length ps + 4 - 1) (drop 1 l))) e
+    ∙ ap (λ (l : List ℕ). fold 255 l) (take-at (counted kind command ps) (drop (length (1 ∷ counted kind command ps)) d) (length ps + 4 - 1) n) in
     let at : length ps + 4 ≡ length (1 ∷ counted kind command ps) = omega arith in
     ap (λ (l : List ℕ). set l (length ps + 4) v) e
     ∙ ap (λ (i : ℕ). set (over (1 ∷ counted kind command ps) d) i v) at

@@ -1,5 +1,4 @@
 pub mod Folds
 pub mod Over
 pub mod Framing
-pub mod Picks
 pub mod Theorems

@@ -17,8 +17,8 @@ use lib.Dec.{leb, ltb}
 use lib.ListN.{length, take, set, length-append, length-take, length-drop}
 use lib.Seq.{paste, length-paste, take-all, take-append-seam, drop-append-add, drop-drop, length-take-le, drop-cons, set-append-seam, append-snoc, take-length}
 use borrow.Author.Tests.{leb-true, leb-false, le-ltb, ltb-false}
-use Rattle.frame.specs.Pick.{pick}
-use Rattle.frame.specs.Bytes.{over, Laid}
+use Rattle.refusals.specs.Pick.{pick}
+use Rattle.frame.specs.Bytes.{over, Lay}
 
 pub over-length : (bs d : List ℕ) → length bs ≤ length d → length (over bs d) ≡ length d
 over-length bs d h = simp (length-append, length-drop) (omega arith)
@@ -49,7 +49,7 @@ over-paste-1 [] s v n m e h = absurd (not-suc-le-zero h)
 over-paste-1 (x ∷ d) s v n m e h = simp (e, one-add, take-min, length-take)
 
 -- what `lay` leaves where all of it fits
-pub laid-in : {src : List ℕ} {n : ℕ} {dst : List ℕ} {at : ℕ} {r : Bool} {dst′ : List ℕ} → n ≤ length src → at + n ≤ length dst → Laid src n dst at r dst′
+pub laid-in : {src : List ℕ} {n : ℕ} {dst : List ℕ} {at : ℕ} {r : Bool} {dst′ : List ℕ} → n ≤ length src → at + n ≤ length dst → Lay src n dst at r dst′
     → dst′ ≡ paste dst at src n
 laid-in {src} {n} {dst} {at} hs hd laid = laid .left ∙ simp (le-ltb (length src) n hs, le-ltb (length dst) (at + n) hd)
 
@@ -60,5 +60,5 @@ laid-length-by src n dst at false true e f = refl
 laid-length-by src n dst at false false e f = length-paste dst at src n (ltb-false (length dst) (at + n) f) (ltb-false (length src) n e)
 
 -- and it never changes the length
-pub laid-length : {src : List ℕ} {n : ℕ} {dst : List ℕ} {at : ℕ} {r : Bool} {dst′ : List ℕ} → Laid src n dst at r dst′ → length dst′ ≡ length dst
+pub laid-length : {src : List ℕ} {n : ℕ} {dst : List ℕ} {at : ℕ} {r : Bool} {dst′ : List ℕ} → Lay src n dst at r dst′ → length dst′ ≡ length dst
 laid-length {src} {n} {dst} {at} laid = ap length (laid .left) ∙ laid-length-by src n dst at (ltb (length src) n) (ltb (length dst) (at + n)) refl refl

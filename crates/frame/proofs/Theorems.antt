@@ -1,44 +1,39 @@
--- What holds of the frame, its refusals and the promises of this crate, over all inputs.
+-- What holds of the frame and the promises of this crate, over all inputs.
 -- Assumes nothing.
 use mathlib.Core.Path.{_≡_, refl, sym, ap, _∙_}
 use mathlib.Core.Bool.{Bool}
-use mathlib.Core.List.{List, [], _∷_, map}
-use Prim.Native.Nat.{ℕ, _+_, _-_, _≤_}
+use mathlib.Core.List.{List, [], _∷_}
+use Prim.Native.Nat.{ℕ, _+_, _≤_, min}
 use native.Mathlib.Omega.{arith}
 use lib.Dec.{ltb}
 use lib.ListN.{length, getD, take, drop, length-append}
 use lib.Seq.{take-at, getD-at}
 use borrow.Author.Tests.{ltb-false, le-ltb}
-use Rattle.frame.specs.declared.refusal.Refusal.{Refusal}
-use Rattle.frame.specs.declared.refusal.Refusal.the-variants.{Room, Busy, Kind, Long, Short, Start, Length, Tail, Sum, Form, Range}
+use Rattle.refusals.specs.declared.Refusal.{Refusal}
 use Rattle.frame.specs.declared.builder.Built.{Built}
 use Rattle.frame.specs.declared.builder.Built.the-variants.{Refused, Frame}
-use Rattle.frame.specs.Bytes.{xorAll, Laid}
-use Rattle.frame.specs.Refusals.{numberOf}
+use Rattle.frame.specs.Bytes.{fold, Lay}
 use Rattle.frame.specs.Frame.{counted, checksum, frameOf}
-use Rattle.frame.specs.Pick.{pick}
+use Rattle.refusals.specs.Pick.{pick}
 use Rattle.frame.specs.Builder.{builtOf, builtTold, Build}
-use Rattle.frame.proofs.Picks.{picked-second, through-by}
+use Rattle.refusals.proofs.Picks.{picked-second, through-by}
+use Rattle.refusals.proofs.Theorems.{fixed}
 
 -- Section 12: each promise determines its answer and every lent byte after the call, refusals too.
-
--- a promise that is an equation fixes its answer
-pub fixed : {A : Type 0} {r q x : A} → r ≡ x → q ≡ x → r ≡ q
-fixed e f = e ∙ sym f
 
 pub build-determined : {kind command : ℕ} {ps lent : List ℕ} {r q : Built} {l m : List ℕ} → Build kind command ps lent r l
     → Build kind command ps lent q m → (r ≡ q) × (l ≡ m)
 build-determined a b = (fixed (a .answer) (b .answer), fixed (a .left) (b .left))
 
-pub lay-determined : {src : List ℕ} {n : ℕ} {dst : List ℕ} {at : ℕ} {r q : Bool} {l m : List ℕ} → Laid src n dst at r l
-    → Laid src n dst at q m → (r ≡ q) × (l ≡ m)
+pub lay-determined : {src : List ℕ} {n : ℕ} {dst : List ℕ} {at : ℕ} {r q : Bool} {l m : List ℕ} → Lay src n dst at r l
+    → Lay src n dst at q m → (r ≡ q) × (l ≡ m)
 lay-determined a b = (fixed (a .answer) (b .answer), fixed (a .left) (b .left))
 
-pub fold-determined : (acc : ℕ) (s : List ℕ) {r q : ℕ} → r ≡ xorAll acc s → q ≡ xorAll acc s → r ≡ q
+pub fold-determined : (acc : ℕ) (s : List ℕ) {r q : ℕ} → r ≡ fold acc s → q ≡ fold acc s → r ≡ q
 fold-determined acc s = fixed
 
-pub number-determined : (k : Refusal) {r q : ℕ} → r ≡ numberOf k → q ≡ numberOf k → r ≡ q
-number-determined k = fixed
+pub least-determined : (a b : ℕ) {r q : ℕ} → r ≡ min a b → q ≡ min a b → r ≡ q
+least-determined a b = fixed
 
 -- Section 2: the whole frame is n + 5 bytes
 pub frame-length : (kind command : ℕ) (ps : List ℕ) → length (frameOf kind command ps) ≡ length ps + 5
@@ -56,7 +51,7 @@ frame-head kind command ps = refl
 
 -- Section 2: Checksum, the last byte, is FF xor every byte from Length to the last parameter
 pub frame-checksum : (kind command : ℕ) (ps : List ℕ)
-    → getD (frameOf kind command ps) (length ps + 4) 0 ≡ xorAll 255 (take (length ps + 3) (drop 1 (frameOf kind command ps)))
+    → getD (frameOf kind command ps) (length ps + 4) 0 ≡ fold 255 (take (length ps + 3) (drop 1 (frameOf kind command ps)))
 unfolding frameOf
 frame-checksum kind command ps =
     let sum = checksum (counted kind command ps) in
@@ -91,29 +86,3 @@ build-told {kind} {command} {ps} {lent} b =
     ∙ through-by builtTold (ltb 1 kind) refl
     (through-by builtTold (ltb 252 (length ps)) refl
     (through-by builtTold (ltb (length lent) (length ps + 5)) refl refl))
-
--- Section 3: the refusals in the order of their numbers
-abbrev pub eleven : List Refusal
-eleven = Room ∷ Busy ∷ Kind ∷ Long ∷ Short ∷ Start ∷ Length ∷ Tail ∷ Sum ∷ Form ∷ Range ∷ []
-
--- they are numbered from 1 to 11
-pub numbers : map numberOf eleven ≡ 1 ∷ 2 ∷ 3 ∷ 4 ∷ 5 ∷ 6 ∷ 7 ∷ 8 ∷ 9 ∷ 10 ∷ 11 ∷ []
-numbers = refl
-
--- each stands at its number among the eleven
-pub number-place : (k : Refusal) → getD eleven (numberOf k - 1) Room ≡ k
-number-place Room = refl
-number-place Busy = refl
-number-place Kind = refl
-number-place Long = refl
-number-place Short = refl
-number-place Start = refl
-number-place Length = refl
-number-place Tail = refl
-number-place Sum = refl
-number-place Form = refl
-number-place Range = refl
-
--- so no two have the same
-pub number-injective : (k l : Refusal) → numberOf k ≡ numberOf l → k ≡ l
-number-injective k l e = sym (number-place k) ∙ ap (λ (i : ℕ). getD eleven (i - 1) Room) e ∙ number-place l

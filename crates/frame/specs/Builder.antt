@@ -5,11 +5,11 @@ use mathlib.Core.Path.{_≡_}
 use mathlib.Core.List.{List, [], _∷_}
 use lib.Dec.{ltb}
 use lib.ListN.{length}
-use Rattle.frame.specs.Pick.{pick}
+use Rattle.refusals.specs.Pick.{pick}
 use Rattle.frame.specs.Bytes.{over}
 use Rattle.frame.specs.Frame.{frameOf}
-use Rattle.frame.specs.Refusals.{numberOf}
-use Rattle.frame.specs.declared.refusal.Refusal.the-variants as refusal
+use Rattle.refusals.specs.Refusals.{numberOf}
+use Rattle.refusals.specs.declared.Refusal.the-variants as refusal
 use Rattle.frame.specs.declared.builder.Built.{Built}
 use Rattle.frame.specs.declared.builder.Built.the-variants.{Refused, Frame}
 

@@ -8,12 +8,12 @@ use lib.Bits.{bitXor}
 use lib.Dec.{ltb}
 use lib.ListN.{length, drop}
 use lib.Seq.{paste}
-use Rattle.frame.specs.Pick.{pick}
+use Rattle.refusals.specs.Pick.{pick}
 
 -- the xor of a and every byte
-unfoldable pub xorAll : ℕ → List ℕ → ℕ
-xorAll a [] = a
-xorAll a (b ∷ bs) = xorAll (bitXor a b) bs
+unfoldable pub fold : ℕ → List ℕ → ℕ
+fold a [] = a
+fold a (b ∷ bs) = fold (bitXor a b) bs
 
 -- a lent buffer with these bytes over its first ones
 abbrev pub over : List ℕ → List ℕ → List ℕ
@@ -24,6 +24,6 @@ abbrev pub fits : List ℕ → ℕ → List ℕ → ℕ → Bool
 fits src n dst at = pick (ltb (length src) n) false (pick (ltb (length dst) (at + n)) false true)
 
 -- what `lay` answers and leaves
-pub record Laid (src : List ℕ) (n : ℕ) (dst : List ℕ) (at : ℕ) (r : Bool) (dst′ : List ℕ) : Type 0 where
+pub record Lay (src : List ℕ) (n : ℕ) (dst : List ℕ) (at : ℕ) (r : Bool) (dst′ : List ℕ) : Type 0 where
   pub answer : r ≡ fits src n dst at
   pub left : dst′ ≡ pick (fits src n dst at) (paste dst at src n) dst

@@ -3,7 +3,7 @@
 use Prim.Native.Nat.{ℕ, _+_}
 use mathlib.Core.List.{List, [], _∷_, _++_}
 use lib.ListN.{length}
-use Rattle.frame.specs.Bytes.{xorAll}
+use Rattle.frame.specs.Bytes.{fold}
 
 -- from Length to the last parameter: Length counts itself, Type, Command and the parameters
 abbrev pub counted : ℕ → ℕ → List ℕ → List ℕ
@@ -11,7 +11,7 @@ counted kind command ps = (length ps + 3) ∷ kind ∷ command ∷ ps
 
 -- FF xor every byte
 abbrev pub checksum : List ℕ → ℕ
-checksum bytes = xorAll 255 bytes
+checksum bytes = fold 255 bytes
 
 -- 01, Length, Type, Command, parameters, Checksum
 unfoldable pub frameOf : ℕ → ℕ → List ℕ → List ℕ

@@ -1,5 +1,3 @@
-pub mod Pick
-pub mod Refusals
 pub mod Bytes
 pub mod Frame
 pub mod Builder

@@ -1,7 +1,7 @@
 // Building a frame (sections 2 and 3).
 use crate::bytes::fold;
 use crate::bytes::lay;
-use crate::refusal::Refusal;
+use refusals::Refusal;
 ghost use mathlib.Core.Path.{_≡_};
 ghost use Prim.Native.Nat.{_+_, _≤_};
 ghost use lib.ListN.{length};

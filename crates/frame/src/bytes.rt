@@ -1,10 +1,11 @@
-// The two loops over bytes that frames are made of: copying and folding.
+// The two loops over bytes that frames are made of, copying and folding; and how far a loop may go.
 ghost use mathlib.Core.Path.{_≡_};
-ghost use Rattle.frame.specs.Bytes.{xorAll, Laid};
+ghost use Prim.Native.Nat.{min};
+ghost use Rattle.frame.specs.Bytes as spec;
 
 // Copies the first n bytes of src over dst from `at`, and says whether all of them were there and fitted; if not, nothing is copied.
 pub fn lay(src: &[u8], n: usize, dst: &mut [u8], at: usize) -> bool
-    ensures { λ r. ⌜ Laid (now (src .entry)) n (now (dst .entry)) at r (now (dst .exit)) ⌝ }
+    ensures { λ r. ⌜ spec.Lay (now (src .entry)) n (now (dst .entry)) at r (now (dst .exit)) ⌝ }
 {
     if src.len() < n {
         return false;
@@ -25,7 +26,7 @@ pub fn lay(src: &[u8], n: usize, dst: &mut [u8], at: usize) -> bool
 
 // The xor of acc and every byte of s.
 pub fn fold(acc: u8, s: &[u8]) -> u8
-    ensures { λ r. ⌜ r ≡ xorAll acc (now (s .entry)) ⌝ }
+    ensures { λ r. ⌜ r ≡ spec.fold acc (now (s .entry)) ⌝ }
 {
     let mut a = acc;
     let mut i = 0;
@@ -34,4 +35,14 @@ pub fn fold(acc: u8, s: &[u8]) -> u8
         i += 1;
     }
     a
+}
+
+// The smaller of two numbers.
+pub fn least(a: usize, b: usize) -> usize
+    ensures { λ r. ⌜ r ≡ min a b ⌝ }
+{
+    if a <= b {
+        return a;
+    }
+    b
 }

@@ -9,46 +9,47 @@ use lib.Dec.{ltb, eqb}
 use lib.ListN.{length, take, drop, getD, length-append}
 use lib.Seq.{take-at, take-nil, getD-at}
 use borrow.Author.Tests.{ltb-true, ltb-false, lt-ltb, le-ltb, eqb-true, eqb-false, eq-eqb, ne-eqb}
-use Rattle.frame.specs.Pick.{pick}
-use Rattle.frame.specs.Bytes.{xorAll}
+use Rattle.refusals.specs.Pick.{pick}
+use Rattle.frame.specs.Bytes.{fold}
 use Rattle.frame.specs.Frame.{counted, checksum, frameOf}
-use Rattle.frame.specs.declared.refusal.Refusal.the-variants as refusal
-use Rattle.reading.specs.Reader.{readingOf, measuredOf, parametersOf}
+use Rattle.refusals.specs.declared.Refusal.the-variants as refusal
+use Rattle.reading.specs.Reader.{read, measuredOf, parametersOf}
 use Rattle.reading.proofs.Theorems.{read-built}
 use Rattle.reading.specs.declared.reader.Reading.{Reading}
 use Rattle.reading.specs.declared.reader.Reading.the-variants.{Refused, Parts}
-use Rattle.job.specs.Rules.{Rules}
-use Rattle.reception.specs.Hearing.{heard, heardByte, heardTick, begun, more, ended, later, keep}
-use Rattle.sending.specs.Events.{release, awaits, onEnd}
-use Rattle.report.specs.Report.{saidEnd, newsReception, newsSending, newsSession, newsReset}
+use Rattle.rules.specs.Rules.{Rules}
+use Rattle.hearing.specs.Hearing.{heard, hearByte, hearTick, begun, more, ended, later, keep}
+use Rattle.sending.specs.Events.{release, awaits, onEnd, awaitedBy}
+use Rattle.report.specs.Report.{newsReception, newsSending, newsSession, newsReset}
 use Rattle.step.specs.Checks.{roomChecks}
-use Rattle.link.specs.Step.{Out, Taken, byteBy, byteOut, tickOut, openOut, news, quiet, runFrom, runOut}
+use Rattle.link.specs.Out.{Out, Taken, byteBy, byteOut, tickOut, openOut, news, quiet, runFrom, runOut}
 use Rattle.step.specs.declared.checks.Checked.{Checked}
 use Rattle.step.specs.declared.checks.Checked.the-variants.{Passes, Refuses}
-use Rattle.reception.specs.declared.hearing.Partial.{Partial}
-use Rattle.reception.specs.declared.hearing.Hearing.{Hearing}
-use Rattle.reception.specs.declared.hearing.Hearing.the-variants.{Hunting, Head, Body}
-use Rattle.reception.specs.declared.hearing.End.{End}
-use Rattle.reception.specs.declared.hearing.End.the-variants as end
-use Rattle.reception.specs.declared.hearing.Event.{Event}
-use Rattle.reception.specs.declared.hearing.Event.the-variants.{Inside, Kept, Skipped, Alone, Ended, TickHunting, TickInside, Aborted}
-use Rattle.reception.specs.declared.hearing.Heard.{Heard}
+use Rattle.hearing.specs.declared.hearing.Partial.{Partial}
+use Rattle.hearing.specs.declared.hearing.Hearing.{Hearing}
+use Rattle.hearing.specs.declared.hearing.Hearing.the-variants.{Hunting, Head, Body}
+use Rattle.hearing.specs.declared.hearing.End.{End}
+use Rattle.hearing.specs.declared.hearing.End.the-variants as end
+use Rattle.hearing.specs.declared.hearing.Event.{Event}
+use Rattle.hearing.specs.declared.hearing.Event.the-variants.{Inside, Kept, Skipped, Alone, Ended, TickHunting, TickInside, Aborted}
+use Rattle.hearing.specs.declared.hearing.Heard.{Heard}
 use Rattle.job.specs.declared.job.Act.{Act}
 use Rattle.job.specs.declared.job.Job.{Job}
 use Rattle.job.specs.declared.job.Job.the-variants.{Idle, Due, Waiting, BackingOff, Awaiting}
-use Rattle.report.specs.declared.report.Reception.{Reception}
-use Rattle.link.specs.declared.state.Link.{Link}
-use Rattle.history.specs.Calls.{What, byte, bytes, tick, send, session, restart, Call, checksOf, outOf, Done, refused, took, doneBy, perform}
-use Rattle.history.specs.History.{next, run, after, ticksOf, restartsOf, accepted, ticksIn, restartsIn}
+use Rattle.report.specs.declared.Reception.{Reception}
+use Rattle.link.specs.declared.link.Link.{Link}
+use Rattle.history.specs.Perform.{What, byte, bytes, tick, send, session, restart, Call, checksOf, outOf, Done, refused, took, doneBy, perform}
+use Rattle.history.specs.History.{next, run, after, oneTick, oneRestart, accepted, ticksIn, restartsIn}
 use Rattle.history.specs.Received.{feed, takenBy, ifTaken, received}
 use Rattle.history.specs.Whole.{Whole, short, full, fromFirst, clockIn, ComesWhole, dueCopy, Ending, EndsBy, AsRead}
 use Rattle.history.proofs.Reception.{pick-by, pick-ok}
 use Rattle.history.proofs.Histories.{accepted-is}
-use Rattle.reception.proofs.Theorems.{keep-length}
+use Rattle.hearing.proofs.Theorems.{keep-length}
 use Rattle.history.proofs.Ranges.{body-254}
 use Rattle.history.proofs.Section11.{answerTo, end-reply, byte-at, checked}
 use Rattle.history.proofs.Bodies.{partialOf, begun-is, more-is, kept-more}
 use Rattle.history.proofs.Runs.{quiet-by-report, run-bytes, run-feeds, taken-is, SameSender, quiet-sender}
+use Rattle.reception.specs.Said.{saidEnd}
 
 -- ---- bytes that come whole, seen from their Length on
 data Measured (len : ℕ) (rest : List ℕ) : Type 0 where
@@ -83,7 +84,7 @@ unfolding frameOf
 frame-is-whole kind command ps k =
     full (length ps + 3) (kind ∷ command ∷ (ps ++ (checksum (counted kind command ps) ∷ []))) refl (omega arith) (omega arith) (omega (arith, length-append ps (checksum (counted kind command ps) ∷ [])))
 
-pub read-is-whole : (xs : List ℕ) (kind command n : ℕ) → readingOf xs ≡ Parts kind command n → getD xs 1 0 < 256 → Whole xs
+pub read-is-whole : (xs : List ℕ) (kind command n : ℕ) → read xs ≡ Parts kind command n → getD xs 1 0 < 256 → Whole xs
 read-is-whole xs kind command n e k =
     let b = read-built xs kind command n e in
     let small : n ≤ 252 = b .3 k in
@@ -147,20 +148,20 @@ abbrev HearsIt : List ℕ → ℕ → List ℕ → ℕ → List ℕ → Heard �
 HearsIt xs t d b zs r = IsTaken (r .event) × Hears xs t (keep (r .event) b d) zs (r .hearing)
 
 byte-hears : (xs : List ℕ) (t : ℕ) (d : List ℕ) (b : ℕ) (zs : List ℕ) (h : Hearing) → Whole xs → 0 < length zs → length d ≡ 254
-    → Hears xs t d (b ∷ zs) h → HearsIt xs t d b zs (heardByte b h)
+    → Hears xs t d (b ∷ zs) h → HearsIt xs t d b zs (hearByte b h)
 byte-hears xs t d b zs Hunting w n r e =
     let f : b ≡ 1 = ap (λ (s : List ℕ). getD s 0 0) (sym e) ∙ (starts xs w) .0 in
-    subst (λ (y : ℕ). HearsIt xs t d y zs (heardByte y Hunting)) (sym f) (tt, (omega arith, e ∙ ap (λ (y : ℕ). y ∷ zs) f))
+    subst (λ (y : ℕ). HearsIt xs t d y zs (hearByte y Hunting)) (sym f) (tt, (omega arith, e ∙ ap (λ (y : ℕ). y ∷ zs) f))
 byte-hears xs t d b zs (Head c) w n r e = by (measured xs zs b w (e .1))
   where
-    by : Measured b zs → HearsIt xs t d b zs (heardByte b (Head c))
+    by : Measured b zs → HearsIt xs t d b zs (hearByte b (Head c))
     by (small k m) = absurd (omega arith)
     by (large k m s) =
         pick-by (HearsIt xs t d b zs) (ltb b 3) _ _ (λ v. let z : b < 3 = ltb-true b 3 v in absurd (omega arith))
         (λ _. (tt, record { len = b; bs = []; clock = c; came = e .1; is = begun-is c b; time = e .0; kept = refl }))
 byte-hears xs t d b zs (Body p) w n r e = by (measured xs (e .bs ++ (b ∷ zs)) (e .len) w (e .came))
   where
-    by : Measured (e .len) (e .bs ++ (b ∷ zs)) → HearsIt xs t d b zs (heardByte b (Body p))
+    by : Measured (e .len) (e .bs ++ (b ∷ zs)) → HearsIt xs t d b zs (hearByte b (Body p))
     by (small k m) = absurd (omega (arith, length-append (e .bs) (b ∷ zs)))
     by (large k m s) =
         let at : p .at ≡ length (e .bs) = ap (λ (q : Partial). q .at) (e .is) in
@@ -186,7 +187,7 @@ unfolding byteOut
 byte-expects R xs t b zs l w n e =
     record {
       hears = (byte-hears xs t (l .body) b zs (l .core .hearing) w n (e .body) (e .hears)) .1;
-      body = keep-length ((heardByte b (l .core .hearing)) .event) b (l .body) ∙ e .body;
+      body = keep-length ((hearByte b (l .core .hearing)) .event) b (l .body) ∙ e .body;
     }
 
 taken-news : (R : Rules) (l : Link) (b : ℕ) (h : Hearing) (e : Event) → IsTaken e → news (byteBy R l b (heard h e)) ≡ false
@@ -202,7 +203,7 @@ taken-news R l b h Aborted i = absurd i
 byte-news : (R : Rules) (xs : List ℕ) (t b : ℕ) (zs : List ℕ) (l : Link) → Whole xs → 0 < length zs → Expects xs t (b ∷ zs) l → news (byteOut R l b) ≡ false
 unfolding byteOut
 byte-news R xs t b zs l w n e =
-    let r = heardByte b (l .core .hearing) in
+    let r = hearByte b (l .core .hearing) in
     taken-news R l b (r .hearing) (r .event) ((byte-hears xs t (l .body) b zs (l .core .hearing) w n (e .body) (e .hears)) .0)
 
 -- it says nothing, so that it leaves the sender as it was
@@ -227,7 +228,7 @@ feed-sender R xs t (y ∷ ys) zs l w n e =
     record { job = g .job ∙ f .job; held = g .held ∙ f .held }
 
 -- ---- a tick
-tick-hears : (xs : List ℕ) (t : ℕ) (d zs : List ℕ) (h : Hearing) → t + 1 ≤ 1500 → Hears xs t d zs h → Hears xs (t + 1) d zs ((heardTick h) .hearing)
+tick-hears : (xs : List ℕ) (t : ℕ) (d zs : List ℕ) (h : Hearing) → t + 1 ≤ 1500 → Hears xs t d zs h → Hears xs (t + 1) d zs ((hearTick h) .hearing)
 tick-hears xs t d zs Hunting k e = e
 tick-hears xs t d zs (Head c) k e =
     let v : c ≤ t = e .0 in
@@ -240,8 +241,8 @@ tick-hears xs t d zs (Body p) k e =
     (λ f. let z : 1501 ≤ p .clock + 1 = ltb-false _ _ f in absurd (omega (arith, e .time)))
 
 -- ---- every call but a restart
-what-expects : (R : Rules) (xs : List ℕ) (t : ℕ) (zs : List ℕ) (l : Link) (w : What) → Whole xs → 0 < length zs → restartsOf w ≡ 0 → t + ticksOf w ≤ 1500
-    → Expects xs t (takenBy R l w ++ zs) l → Expects xs (t + ticksOf w) zs ((outOf R l w) .link)
+what-expects : (R : Rules) (xs : List ℕ) (t : ℕ) (zs : List ℕ) (l : Link) (w : What) → Whole xs → 0 < length zs → oneRestart w ≡ 0 → t + oneTick w ≤ 1500
+    → Expects xs t (takenBy R l w ++ zs) l → Expects xs (t + oneTick w) zs ((outOf R l w) .link)
 unfolding tickOut openOut
 what-expects R xs t zs l (byte b) w n r k e = longer xs zs t (t + 0) _ (omega arith) (byte-expects R xs t b zs l w n e)
 what-expects R xs t zs l (bytes bs) w n r k e =
@@ -253,16 +254,16 @@ what-expects R xs t zs l (session command ps) w n r k e = longer xs zs t (t + 0)
 what-expects R xs t zs l restart w n r k e = absurd (omega arith)
 
 done-expects : (R : Rules) (xs : List ℕ) (t : ℕ) (zs : List ℕ) (l : Link) (w : What) (c : Checked) → Whole xs → 0 < length zs
-    → accepted (restartsOf w) (doneBy c (outOf R l w)) ≡ 0 → t + accepted (ticksOf w) (doneBy c (outOf R l w)) ≤ 1500
+    → accepted (oneRestart w) (doneBy c (outOf R l w)) ≡ 0 → t + accepted (oneTick w) (doneBy c (outOf R l w)) ≤ 1500
     → Expects xs t (ifTaken (doneBy c (outOf R l w)) (takenBy R l w) ++ zs) l
-    → Expects xs (t + accepted (ticksOf w) (doneBy c (outOf R l w))) zs (next l (doneBy c (outOf R l w)))
+    → Expects xs (t + accepted (oneTick w) (doneBy c (outOf R l w))) zs (next l (doneBy c (outOf R l w)))
 done-expects R xs t zs l w Passes v n r k e = what-expects R xs t zs l w v n r k e
 done-expects R xs t zs l w (Refuses q) v n r k e = longer xs zs t (t + 0) l (omega arith) e
 
 call-expects : (R : Rules) (xs : List ℕ) (t : ℕ) (zs : List ℕ) (l : Link) (c : Call) → Whole xs → 0 < length zs
-    → accepted (restartsOf (c .what)) (perform R l c) ≡ 0 → t + accepted (ticksOf (c .what)) (perform R l c) ≤ 1500
+    → accepted (oneRestart (c .what)) (perform R l c) ≡ 0 → t + accepted (oneTick (c .what)) (perform R l c) ≤ 1500
     → Expects xs t (ifTaken (perform R l c) (takenBy R l (c .what)) ++ zs) l
-    → Expects xs (t + accepted (ticksOf (c .what)) (perform R l c)) zs (next l (perform R l c))
+    → Expects xs (t + accepted (oneTick (c .what)) (perform R l c)) zs (next l (perform R l c))
 call-expects R xs t zs l c w n r k e = done-expects R xs t zs l (c .what) (roomChecks (c .line) (c .up) (checksOf l (c .what))) w n r k e
 
 -- ---- any calls: zs is what is to come behind them
@@ -273,13 +274,13 @@ calls-expect R xs t (c ∷ h) zs l w n r k e =
     let z = next l (perform R l c) in
     let a = ifTaken (perform R l c) (takenBy R l (c .what)) in
     let rest = received R z h in
-    let m = accepted (ticksOf (c .what)) (perform R l c) in
+    let m = accepted (oneTick (c .what)) (perform R l c) in
     let f : Expects xs (t + m) (rest ++ zs) z =
     call-expects R xs t (rest ++ zs) l c w (omega (arith, length-append rest zs)) (omega arith) (omega arith) (subst (λ (s : List ℕ). Expects xs t s l) (append-assoc a rest zs) e) in
     longer xs zs (t + m + ticksIn R z h) (t + (m + ticksIn R z h)) _ (omega arith) (calls-expect R xs (t + m) h zs z w n (omega arith) (omega arith) f)
 
 -- a call that takes a byte is no tick
-takes-no-tick : (R : Rules) (l : Link) (w : What) (d : Done) → 0 < length (ifTaken d (takenBy R l w)) → accepted (ticksOf w) d ≡ 0
+takes-no-tick : (R : Rules) (l : Link) (w : What) (d : Done) → 0 < length (ifTaken d (takenBy R l w)) → accepted (oneTick w) d ≡ 0
 takes-no-tick R l w (refused q) k = refl
 takes-no-tick R l (byte b) (took o) k = refl
 takes-no-tick R l (bytes bs) (took o) k = refl
@@ -308,14 +309,14 @@ all-expect R xs (c ∷ h) zs l w n r k q e =
     let z = next l (perform R l c) in
     let a = ifTaken (perform R l c) (takenBy R l (c .what)) in
     let rest = received R z h in
-    let m = accepted (ticksOf (c .what)) (perform R l c) in
+    let m = accepted (oneTick (c .what)) (perform R l c) in
     let few : m ≤ 1 = once (c .what) (perform R l c) in
     let f : Expects xs (0 + m) (rest ++ zs) z =
     call-expects R xs 0 (rest ++ zs) l c w (omega (arith, length-append rest zs)) (omega arith) (omega arith) (subst (λ (y : List ℕ). Expects xs 0 y l) (sym (sym (append-assoc a rest zs) ∙ q)) e) in
     one-expects R xs a (0 + m) h zs z w n (omega arith) k q (λ s. let v : m ≡ 0 = takes-no-tick R l (c .what) (perform R l c) s in omega arith) f
     (λ v p x. all-expect R xs h zs z w n (omega arith) v p x)
   where
-    once : (w : What) (d : Done) → accepted (ticksOf w) d ≤ 1
+    once : (w : What) (d : Done) → accepted (oneTick w) d ≤ 1
     once w (refused q) = omega arith
     once (byte b) (took o) = omega arith
     once (bytes bs) (took o) = omega arith
@@ -346,8 +347,8 @@ end-copy end.Reserved j held = release-copy j held
 end-copy (end.Request size) j held = release-copy j held
 end-copy (end.Response size command) j held = response-copy size command j held
 
-ending : (R : Rules) (l : Link) (b : ℕ) (e : End) (up : List ℕ) → take ((saidEnd e (l .core .job)) .up) (l .body) ≡ up
-    → Ending (l .core .job) (take (l .core .size) (l .frame)) ((saidEnd e (l .core .job)) .reception) (answerTo e) up (byteBy R l b (heard Hunting (Ended e)))
+ending : (R : Rules) (l : Link) (b : ℕ) (e : End) (up : List ℕ) → take ((saidEnd e (awaitedBy (l .core .job))) .up) (l .body) ≡ up
+    → Ending (l .core .job) (take (l .core .size) (l .frame)) ((saidEnd e (awaitedBy (l .core .job))) .reception) (answerTo e) up (byteBy R l b (heard Hunting (Ended e)))
 ending R l b e up u =
     let j = l .core .job in
     let held = take (l .core .size) (l .frame) in
@@ -359,7 +360,7 @@ ending R l b e up u =
     }
 
 -- what the reader says of them
-reads-short : (len : ℕ) → len < 3 → readingOf (1 ∷ len ∷ []) ≡ Refused refusal.Length
+reads-short : (len : ℕ) → len < 3 → read (1 ∷ len ∷ []) ≡ Refused refusal.Length
 reads-short len k = simp (lt-ltb len 3 k)
 
 eqb-turned : (a b : ℕ) → eqb a b ≡ eqb b a
@@ -372,7 +373,7 @@ eqb-turned a b = pick-by (λ (t : Bool). eqb a b ≡ t) (eqb b a) true false (λ
 abbrev readsAs : ℕ → ℕ → ℕ → Bool → Reading
 readsAs kind command n right = pick right (pick (ltb 1 kind) (Refused refusal.Kind) (Parts kind command n)) (Refused refusal.Sum)
 
-reads-measured : (xs : List ℕ) (len : ℕ) → getD xs 0 0 ≡ 1 → getD xs 1 0 ≡ len → 3 ≤ len → length xs ≡ len + 2 → readingOf xs ≡ measuredOf xs len
+reads-measured : (xs : List ℕ) (len : ℕ) → getD xs 0 0 ≡ 1 → getD xs 1 0 ≡ len → 3 ≤ len → length xs ≡ len + 2 → read xs ≡ measuredOf xs len
 reads-measured xs len f c k n =
     let some : length xs ≡ 0 → ⊥ = λ e. omega arith in
     let more : length xs ≡ 1 → ⊥ = λ e. omega arith in
@@ -387,14 +388,14 @@ reads-measured xs len f c k n =
     )
 
 reads-full : (len b x y : ℕ) (ps : List ℕ) → len ≡ length ps + 3
-    → readingOf (1 ∷ len ∷ x ∷ y ∷ (ps ++ (b ∷ []))) ≡ readsAs x y (len - 3) (eqb b (xorAll 255 (len ∷ x ∷ y ∷ ps)))
+    → read (1 ∷ len ∷ x ∷ y ∷ (ps ++ (b ∷ []))) ≡ readsAs x y (len - 3) (eqb b (fold 255 (len ∷ x ∷ y ∷ ps)))
 reads-full len b x y ps e =
     let xs : List ℕ = 1 ∷ len ∷ x ∷ y ∷ (ps ++ (b ∷ [])) in
     reads-measured xs len refl refl (omega arith) (omega (arith, length-append ps (b ∷ [])))
-    ∙ ap₂ (λ (s : List ℕ) (c : ℕ). readsAs x y (len - 3) (eqb (xorAll 255 s) c))
+    ∙ ap₂ (λ (s : List ℕ) (c : ℕ). readsAs x y (len - 3) (eqb (fold 255 s) c))
     (take-at (len ∷ x ∷ y ∷ ps) (b ∷ []) len (omega arith))
     (getD-at (1 ∷ len ∷ x ∷ y ∷ ps) b [] 0 (len + 1) (omega arith))
-    ∙ ap (readsAs x y (len - 3)) (eqb-turned (xorAll 255 (len ∷ x ∷ y ∷ ps)) b)
+    ∙ ap (readsAs x y (len - 3)) (eqb-turned (fold 255 (len ∷ x ∷ y ∷ ps)) b)
 
 -- a right Checksum, by the Type
 abbrev RightEnds : Rules → Link → ℕ → ℕ → ℕ → ℕ → ℕ → List ℕ → Type 0
@@ -433,7 +434,7 @@ sum-ends R l b clock len x y ps true e k = right-ends R l b clock len x y ps e k
 sum-ends R l b clock len x y ps false e k = ending R l b end.BadSum [] refl
 
 full-ends : (R : Rules) (l : Link) (b clock len : ℕ) (bs : List ℕ) → l .core .hearing ≡ Body (partialOf clock len bs) → 3 ≤ len → length bs + 1 ≡ len
-    → take (length bs) (l .body) ≡ bs → AsRead l (1 ∷ len ∷ (bs ++ (b ∷ []))) (readingOf (1 ∷ len ∷ (bs ++ (b ∷ [])))) (byteOut R l b)
+    → take (length bs) (l .body) ≡ bs → AsRead l (1 ∷ len ∷ (bs ++ (b ∷ []))) (read (1 ∷ len ∷ (bs ++ (b ∷ [])))) (byteOut R l b)
 full-ends R l b clock len [] q k n d = absurd (omega arith)
 full-ends R l b clock len (x ∷ []) q k n d = absurd (omega arith)
 full-ends R l b clock len (x ∷ y ∷ ps) q k n d =
@@ -444,7 +445,7 @@ full-ends R l b clock len (x ∷ y ∷ ps) q k n d =
     (subst (AsRead l xs (readsAs x y (len - 3) (eqb b (p .sum)))) (sym (checked R l b p q (omega arith)))
     (sum-ends R l b clock len x y ps (eqb b (p .sum)) e d))
 
-short-ends : (R : Rules) (l : Link) (b c : ℕ) → l .core .hearing ≡ Head c → b < 3 → AsRead l (1 ∷ b ∷ []) (readingOf (1 ∷ b ∷ [])) (byteOut R l b)
+short-ends : (R : Rules) (l : Link) (b c : ℕ) → l .core .hearing ≡ Head c → b < 3 → AsRead l (1 ∷ b ∷ []) (read (1 ∷ b ∷ [])) (byteOut R l b)
 short-ends R l b c q k =
     let o : byteOut R l b ≡ byteBy R l b (heard Hunting (Ended end.BadLength)) =
     byte-at R l b (Head c) q ∙ ap (λ (x : Bool). byteBy R l b (pick x (heard Hunting (Ended end.BadLength)) (heard (Body (begun c b)) Inside))) (lt-ltb b 3 k) in
@@ -452,22 +453,22 @@ short-ends R l b c q k =
     (subst (AsRead l (1 ∷ b ∷ []) (Refused refusal.Length)) (sym o) (ending R l b end.BadLength [] refl))
 
 last-hears : (R : Rules) (xs : List ℕ) (t b : ℕ) (l : Link) (h : Hearing) → l .core .hearing ≡ h → Whole xs → Hears xs t (l .body) (b ∷ []) h
-    → AsRead l xs (readingOf xs) (byteOut R l b)
+    → AsRead l xs (read xs) (byteOut R l b)
 last-hears R xs t b l Hunting q w e = let v : length xs ≡ 1 = ap length e in let m : 1 < length xs = (starts xs w) .1 in absurd (omega arith)
 last-hears R xs t b l (Head c) q w e = by (measured xs [] b w (e .1))
   where
-    by : Measured b [] → AsRead l xs (readingOf xs) (byteOut R l b)
-    by (small k n) = subst (λ (s : List ℕ). AsRead l s (readingOf s) (byteOut R l b)) (sym (e .1)) (short-ends R l b c q k)
+    by : Measured b [] → AsRead l xs (read xs) (byteOut R l b)
+    by (small k n) = subst (λ (s : List ℕ). AsRead l s (read s) (byteOut R l b)) (sym (e .1)) (short-ends R l b c q k)
     by (large k m n) = absurd (omega arith)
 last-hears R xs t b l (Body p) q w e = by (measured xs (e .bs ++ (b ∷ [])) (e .len) w (e .came))
   where
-    by : Measured (e .len) (e .bs ++ (b ∷ [])) → AsRead l xs (readingOf xs) (byteOut R l b)
+    by : Measured (e .len) (e .bs ++ (b ∷ [])) → AsRead l xs (read xs) (byteOut R l b)
     by (small k n) = absurd (omega (arith, length-append (e .bs) (b ∷ [])))
     by (large k m n) =
-        subst (λ (s : List ℕ). AsRead l s (readingOf s) (byteOut R l b)) (sym (e .came))
+        subst (λ (s : List ℕ). AsRead l s (read s) (byteOut R l b)) (sym (e .came))
         (full-ends R l b (e .clock) (e .len) (e .bs) (q ∙ ap Body (e .is)) k (sym (length-append (e .bs) (b ∷ [])) ∙ n) (e .kept))
 
-last-byte : (R : Rules) (xs : List ℕ) (t b : ℕ) (l : Link) → Whole xs → Expects xs t (b ∷ []) l → AsRead l xs (readingOf xs) (byteOut R l b)
+last-byte : (R : Rules) (xs : List ℕ) (t b : ℕ) (l : Link) → Whole xs → Expects xs t (b ∷ []) l → AsRead l xs (read xs) (byteOut R l b)
 last-byte R xs t b l w e = last-hears R xs t b l (l .core .hearing) refl w (e .hears)
 
 same-sender : (l z : Link) → SameSender l z → (xs : List ℕ) (r : Reading) (o : Out) → AsRead z xs r o → AsRead l xs r o
@@ -477,7 +478,7 @@ same-sender l z s xs r o a =
 
 -- ---- the call that takes the last byte: a run takes it with quiet bytes before it, which leave the sender as it was
 last-call : (R : Rules) (xs : List ℕ) (t : ℕ) (l : Link) (w : What) → Whole xs → 0 < length (takenBy R l w) → Expects xs t (takenBy R l w) l
-    → AsRead l xs (readingOf xs) (outOf R l w)
+    → AsRead l xs (read xs) (outOf R l w)
 last-call R xs t l (byte b) w n e = last-byte R xs t b l w e
 last-call R xs t l (bytes []) w n e =
     let none : List ℕ = [] in
@@ -489,8 +490,8 @@ last-call R xs t l (bytes (b ∷ bs)) w n e =
     let s = quiet-sender R (u .before) l (u .quiet) in
     let f : Expects xs t (u .last ∷ []) z =
     feed-expects R xs t (u .before) (u .last ∷ []) l w (omega arith) (subst (λ (y : List ℕ). Expects xs t y l) (taken-is R l (b ∷ bs) (runOut R l (b ∷ bs)) u) e) in
-    subst (AsRead l xs (readingOf xs)) (sym (u .out))
-    (same-sender l z s xs (readingOf xs) (byteOut R z (u .last)) (last-byte R xs t (u .last) z w f))
+    subst (AsRead l xs (read xs)) (sym (u .out))
+    (same-sender l z s xs (read xs) (byteOut R z (u .last)) (last-byte R xs t (u .last) z w f))
 last-call R xs t l tick w n e = absurd (omega arith)
 last-call R xs t l (send kind command ps) w n e = absurd (omega arith)
 last-call R xs t l (session command ps) w n e = absurd (omega arith)
@@ -498,26 +499,26 @@ last-call R xs t l restart w n e = absurd (omega arith)
 
 -- Bytes that come whole to a link that hunts end as bad length, bad sum, reserved or handed up, with the answer on the line, exactly as the frame reader reads them.
 pub received-as-read : (R : Rules) (l : Link) (k : List Call) (c : Call) (o : Out) (xs : List ℕ) → l .core .hearing ≡ Hunting → length (l .body) ≡ 254
-    → ComesWhole R l k c xs → perform R (run R l k) c ≡ took o → AsRead (run R l k) xs (readingOf xs) o
+    → ComesWhole R l k c xs → perform R (run R l k) c ≡ took o → AsRead (run R l k) xs (read xs) o
 received-as-read R l k c o xs q r w p =
     let z = run R l k in
     let a = accepted-is (roomChecks (c .line) (c .up) (checksOf z (c .what))) (outOf R z (c .what)) o p in
-    subst (AsRead z xs (readingOf xs)) (a .gave)
+    subst (AsRead z xs (read xs)) (a .gave)
     (last-call R xs (clockIn R l k) z (c .what) (w .whole) (w .last)
     (all-expect R xs k (takenBy R z (c .what)) l (w .whole) (w .last) (w .restarts) (w .ticks) (w .bytes) (begins xs l q r)))
 
 -- and so after any history behind which the link hunts
 pub history-as-read : (R : Rules) (h k : List Call) (c : Call) (o : Out) (xs : List ℕ) → (after R h) .core .hearing ≡ Hunting
-    → ComesWhole R (after R h) k c xs → perform R (run R (after R h) k) c ≡ took o → AsRead (run R (after R h) k) xs (readingOf xs) o
+    → ComesWhole R (after R h) k c xs → perform R (run R (after R h) k) c ≡ took o → AsRead (run R (after R h) k) xs (read xs) o
 history-as-read R h k c o xs q w p = received-as-read R (after R h) k c o xs q (body-254 R h) w p
 
 -- ---- the same, given one by one
 pub fed-as-read : (R : Rules) (l : Link) (ys : List ℕ) (b : ℕ) → l .core .hearing ≡ Hunting → length (l .body) ≡ 254 → Whole (ys ++ (b ∷ []))
-    → AsRead l (ys ++ (b ∷ [])) (readingOf (ys ++ (b ∷ []))) (byteOut R (feed R l ys) b)
+    → AsRead l (ys ++ (b ∷ [])) (read (ys ++ (b ∷ []))) (byteOut R (feed R l ys) b)
 fed-as-read R l ys b q r w =
     let xs = ys ++ (b ∷ []) in
     let e = begins xs l q r in
-    same-sender l (feed R l ys) (feed-sender R xs 0 ys (b ∷ []) l w (omega arith) e) xs (readingOf xs) (byteOut R (feed R l ys) b)
+    same-sender l (feed R l ys) (feed-sender R xs 0 ys (b ∷ []) l w (omega arith) e) xs (read xs) (byteOut R (feed R l ys) b)
     (last-byte R xs 0 b (feed R l ys) w (feed-expects R xs 0 ys (b ∷ []) l w (omega arith) e))
 
 -- ---- and in one run, whatever stands behind them in it
@@ -544,7 +545,7 @@ as-read-news l xs (Parts kind command n) o e =
 -- a run that gives this took n bytes, and its last ended the frame as read
 pub record RunAsRead (l : Link) (xs : List ℕ) (n : ℕ) (t : Taken) : Type 0 where
   pub taken : t .taken ≡ n
-  pub out : AsRead l xs (readingOf xs) (t .out)
+  pub out : AsRead l xs (read xs) (t .out)
 
 from-as-read : (R : Rules) (xs : List ℕ) (t b : ℕ) (zs behind : List ℕ) (n : ℕ) (o : Out) → Whole xs → Expects xs t (b ∷ zs) (o .link)
     → RunAsRead (o .link) xs (n + suc (length zs)) (runFrom R o n (b ∷ (zs ++ behind)))
@@ -552,13 +553,13 @@ unfolding runFrom
 from-as-read R xs t b [] behind n o w e =
     let a = last-byte R xs t b (o .link) w e in
     pick-by (RunAsRead (o .link) xs (n + 1)) (news (byteOut R (o .link) b)) _ _ (λ _. record { taken = refl; out = a })
-    (λ f. absurd (false≢true (sym f ∙ as-read-news (o .link) xs (readingOf xs) (byteOut R (o .link) b) a)))
+    (λ f. absurd (false≢true (sym f ∙ as-read-news (o .link) xs (read xs) (byteOut R (o .link) b) a)))
 from-as-read R xs t b (z ∷ zs) behind n o w e =
     let f = byte-news R xs t b (z ∷ zs) (o .link) w (omega arith) e in
     let i = from-as-read R xs t z zs behind (n + 1) (byteOut R (o .link) b) w (byte-expects R xs t b (z ∷ zs) (o .link) w (omega arith) e) in
     let s = byte-sender R xs t b (z ∷ zs) (o .link) w (omega arith) e in
     pick-by (RunAsRead (o .link) xs (n + suc (suc (length zs)))) (news (byteOut R (o .link) b)) _ _ (λ g. absurd (false≢true (sym f ∙ g)))
-    (λ _. record { taken = i .taken ∙ omega arith; out = same-sender (o .link) ((byteOut R (o .link) b) .link) s xs (readingOf xs) _ (i .out) })
+    (λ _. record { taken = i .taken ∙ omega arith; out = same-sender (o .link) ((byteOut R (o .link) b) .link) s xs (read xs) _ (i .out) })
 
 -- it takes these bytes and no more
 pub run-as-read : (R : Rules) (l : Link) (xs behind : List ℕ) → l .core .hearing ≡ Hunting → length (l .body) ≡ 254 → Whole xs

@@ -10,19 +10,19 @@ use lib.Dec.{eqb}
 use lib.ListN.{length, take, set, getD, length-append}
 use lib.Seq.{take-suc-set}
 use borrow.Author.Tests.{ne-eqb}
-use Rattle.frame.specs.Pick.{pick}
-use Rattle.frame.specs.Bytes.{xorAll}
+use Rattle.refusals.specs.Pick.{pick}
+use Rattle.frame.specs.Bytes.{fold}
 use Rattle.frame.proofs.Folds.{fold-append}
-use Rattle.reception.specs.Hearing.{begun, more}
-use Rattle.reception.specs.declared.hearing.Partial.{Partial}
+use Rattle.hearing.specs.Hearing.{begun, more}
+use Rattle.hearing.specs.declared.hearing.Partial.{Partial}
 
 -- the Length and these body bytes have come
 abbrev pub partialOf : ℕ → ℕ → List ℕ → Partial
 partialOf clock len bs =
-    record { clock = clock; size = len - 1; at = length bs; sum = xorAll 255 (len ∷ bs); kind = getD bs 0 0; command = getD bs 1 0 }
+    record { clock = clock; size = len - 1; at = length bs; sum = fold 255 (len ∷ bs); kind = getD bs 0 0; command = getD bs 1 0 }
 
 pub begun-is : (clock len : ℕ) → begun clock len ≡ partialOf clock len []
-unfolding xorAll
+unfolding fold
 begun-is clock len = refl
 
 first-is : (bs : List ℕ) (b : ℕ) → pick (eqb (length bs) 0) b (getD bs 0 0) ≡ getD (bs ++ (b ∷ [])) 0 0
@@ -34,8 +34,8 @@ second-is [] b = refl
 second-is (x ∷ []) b = refl
 second-is (x ∷ y ∷ bs) b = ap (λ (t : Bool). pick t b y) (ne-eqb (suc (suc (length bs))) 1 (λ e. omega arith))
 
-sum-is : (a : ℕ) (bs : List ℕ) (b : ℕ) → bitXor (xorAll a bs) b ≡ xorAll a (bs ++ (b ∷ []))
-unfolding xorAll
+sum-is : (a : ℕ) (bs : List ℕ) (b : ℕ) → bitXor (fold a bs) b ≡ fold a (bs ++ (b ∷ []))
+unfolding fold
 sum-is a bs b = sym (fold-append a bs (b ∷ []))
 
 same : (clock size : ℕ) (at at′ sum sum′ kind kind′ command command′ : ℕ) → at ≡ at′ → sum ≡ sum′ → kind ≡ kind′ → command ≡ command′

@@ -6,19 +6,19 @@ use mathlib.Core.Bool.{true, false, false≢true}
 use mathlib.Core.List.{List, [], _∷_, _++_, map}
 use lib.ListN.{replicate}
 use lib.Dec.{eqb}
-use Rattle.frame.specs.Pick.{pick}
-use Rattle.frame.specs.Bytes.{xorAll}
+use Rattle.refusals.specs.Pick.{pick}
+use Rattle.frame.specs.Bytes.{fold}
 use Rattle.frame.specs.Frame.{frameOf}
-use Rattle.job.specs.Rules.{base}
+use Rattle.rules.specs.Rules.{base}
 use Rattle.job.specs.declared.job.Asking.the-variants.{Plain, Asks}
-use Rattle.link.specs.State.{freshLink, noBody, noFrame}
-use Rattle.job.specs.declared.report.Sending.the-variants as sending
-use Rattle.job.specs.declared.report.Session.the-variants as sessions
-use Rattle.link.specs.Step.{Out, byteOut, tickOut, openOut, restartOut, runFrom}
-use Rattle.history.specs.Calls.{What, byte, bytes, tick, send, session, restart, Call, outOf}
+use Rattle.link.specs.Link.{freshLink, noBody, noFrame}
+use Rattle.report.specs.declared.Sending.the-variants as sending
+use Rattle.report.specs.declared.Session.the-variants as sessions
+use Rattle.link.specs.Out.{Out, byteOut, tickOut, openOut, restartOut, runFrom}
+use Rattle.history.specs.Perform.{What, byte, bytes, tick, send, session, restart, Call, outOf}
 use Rattle.history.specs.History.{after, ticksIn, restartsIn}
 use Rattle.history.specs.Cut.{frames, singles, IsAnswer, ack, nak}
-use Rattle.history.specs.Watch.{Verdict, acknowledged, failed, response, noResponse, notSent, isOwn, none, says, both, verdictIn, count, ended, watched, verdictsFrom, abandonsFrom, linesFrom}
+use Rattle.history.specs.Watch.{Verdict, acknowledged, failed, response, noResponse, notSent, isOwn, none, says, both, verdictIn, verdictCount, ended, watched, verdictsFrom, abandonsFrom, linesFrom}
 
 abbrev lent : What → Call
 lent w = record { what = w; line = 258; up = 254 }
@@ -28,7 +28,7 @@ sent = outOf base freshLink (send 0 7 [])
 
 -- one verdict of a send that is acknowledged
 pub one-verdict : verdictsFrom base Plain sent (lent (byte 0x06) ∷ []) ≡ 1
-unfolding byteOut openOut frameOf xorAll noBody noFrame
+unfolding byteOut openOut frameOf fold noBody noFrame
 one-verdict = refl
 
 -- the bytes of a watch are those of the accepting call, and those of the call of the verdict
@@ -37,13 +37,13 @@ asked = outOf base freshLink (session 7 [])
 
 pub verdict-bytes : watched base (Asks 7) asked (map (λ (b : ℕ). lent (byte b)) (0x06 ∷ 0x01 ∷ 0x03 ∷ 0x01 ∷ 0x07 ∷ 0xFA ∷ []))
     ≡ ended (response 1) 0 (0x01 ∷ 0x03 ∷ 0x00 ∷ 0x07 ∷ 0xFB ∷ 0x06 ∷ [])
-unfolding byteOut openOut frameOf xorAll noBody noFrame
+unfolding byteOut openOut frameOf fold noBody noFrame
 verdict-bytes = refl
 
 -- the bytes until another is accepted are those of every call: here of the tick that aborts a frame and puts the due copy out, and of two restarts
 pub every-line : linesFrom base (outOf base (after base (lent (byte 0x01) ∷ [])) (send 0 7 [])) (replicate 1501 (lent tick) ++ (lent restart ∷ lent restart ∷ []))
     ≡ 0x01 ∷ 0x03 ∷ 0x00 ∷ 0x07 ∷ 0xFB ∷ 0x15 ∷ 0x15 ∷ []
-unfolding byteOut tickOut openOut restartOut frameOf xorAll noBody noFrame
+unfolding byteOut tickOut openOut restartOut frameOf fold noBody noFrame
 every-line = refl
 
 -- every kind of call once, and a tick that is refused: one accepted tick and one accepted restart
@@ -60,7 +60,7 @@ everyCall =
     ∷ []
 
 pub accepted-counted : (ticksIn base freshLink everyCall ≡ 1) × (restartsIn base freshLink everyCall ≡ 1)
-unfolding byteOut tickOut openOut restartOut runFrom frameOf xorAll noBody noFrame
+unfolding byteOut tickOut openOut restartOut runFrom frameOf fold noBody noFrame
 accepted-counted = (refl, refl)
 
 -- A verdict is found in either part, whichever the send was; two are two. A session's ACK with waiting is none, its failure with not sent is one.
@@ -77,12 +77,12 @@ pub ack-or-failure : (c n m : ℕ) → (verdictIn (Asks c) (sending.Acknowledged
     × (verdictIn (Asks c) (sending.Acknowledged n) (sessions.NotSent m) ≡ both (notSent m) (acknowledged n))
 ack-or-failure c n m = (refl, refl, refl, refl)
 
-pub two-are-two : (v w : Verdict) → count (both v w) ≡ 2
+pub two-are-two : (v w : Verdict) → verdictCount (both v w) ≡ 2
 two-are-two v w = refl
 
 -- abandoned said once of a send that is restarted, and twice restarted
 pub one-abandoned : abandonsFrom base sent (lent restart ∷ lent restart ∷ []) ≡ 1
-unfolding openOut restartOut frameOf xorAll noBody noFrame
+unfolding openOut restartOut frameOf fold noBody noFrame
 one-abandoned = refl
 
 -- the cutting finds single bytes and frames in their order

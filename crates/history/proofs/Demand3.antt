@@ -9,21 +9,21 @@ use lib.ListN.{length, length-append}
 use lib.Seq.{take-append-seam}
 use Rattle.frame.specs.Bytes.{over}
 use Rattle.frame.specs.Frame.{frameOf, counted, checksum}
-use Rattle.job.specs.Rules.{Rules, base, backOffs}
-use Rattle.reception.specs.Hearing.{isHunting}
+use Rattle.rules.specs.Rules.{Rules, base, backOffs}
+use Rattle.hearing.specs.Hearing.{isHunting}
 use Rattle.job.specs.Job.{start}
-use Rattle.report.specs.Report.{said, sums}
-use Rattle.link.specs.Step.{Out, openOut}
+use Rattle.reception.specs.Said.{saying}
+use Rattle.link.specs.Out.{Out, openOut}
 use Rattle.step.specs.Checks.{roomChecks}
-use Rattle.reception.specs.declared.hearing.Hearing.{Hearing}
-use Rattle.reception.specs.declared.hearing.Hearing.the-variants.{Hunting, Head, Body}
+use Rattle.hearing.specs.declared.hearing.Hearing.{Hearing}
+use Rattle.hearing.specs.declared.hearing.Hearing.the-variants.{Hunting, Head, Body}
 use Rattle.job.specs.declared.job.Asking.{Asking}
 use Rattle.job.specs.declared.job.Asking.the-variants.{Plain, Asks}
-use Rattle.report.specs.declared.report.Reception.the-variants as reception
-use Rattle.report.specs.declared.report.Reply.the-variants as reply
-use Rattle.job.specs.declared.report.Reset.the-variants as reset
-use Rattle.link.specs.declared.state.Link.{Link}
-use Rattle.history.specs.Calls.{send, session, Call, checksOf}
+use Rattle.report.specs.declared.Reception.the-variants as reception
+use Rattle.reception.specs.declared.said.Reply.the-variants as reply
+use Rattle.report.specs.declared.Reset.the-variants as reset
+use Rattle.link.specs.declared.link.Link.{Link}
+use Rattle.history.specs.Perform.{send, session, Call, checksOf}
 use Rattle.history.specs.History.{after}
 use Rattle.history.specs.Watch.{abandonsIn, verdictOf, watch, watched}
 use Rattle.history.specs.Bound.{Fits, bound}
@@ -35,6 +35,7 @@ use Rattle.history.proofs.Links.{Outcome, lifted}
 use Rattle.history.proofs.Histories.{accepted-is, in-time}
 use Rattle.history.proofs.Watching.{onward-ok, watch-ok, copies-are, copies-number, kept, watched-over, watched-there}
 use Rattle.history.proofs.Once.{NotAbandoned, sofar-from, one-at-most, spent-is}
+use Rattle.reception.specs.Sums.{runOf}
 
 pub frame-is : (kind command : ℕ) (ps : List ℕ) → IsFrame (frameOf kind command ps)
 unfolding frameOf
@@ -54,7 +55,7 @@ module _ (R : Rules) (g : ℕ → ℕ) (fit : Fits R g) where
   unfolding openOut
   open-gave l a f i =
       let h = l .core .hearing in
-      lifted R g fit f a (l .body) (over f (l .frame)) h (length f) (said reception.Nothing reply.Silent 0) (sums (l .core .bad) reset.Nothing)
+      lifted R g fit f a (l .body) (over f (l .frame)) h (length f) (saying reception.Nothing reply.Silent 0) (runOf (l .core .bad) reset.Nothing)
       (start (isHunting h) a 0) (bound R g a (length f)) 0 0 i (take-append-seam f _)
       (start-ok R g fit (length f) (isHunting h) h (bound R g a (length f)) 0 0 a i (omega arith) (omega (arith, room-most h)))
 

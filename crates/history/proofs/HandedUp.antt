@@ -7,31 +7,30 @@ use native.Mathlib.Omega.{arith}
 use lib.Dec.{ltb, eqb}
 use lib.ListN.{length, take, length-append}
 use borrow.Author.Tests.{ltb-true, ltb-false, eqb-true}
-use Rattle.frame.specs.Bytes.{xorAll}
+use Rattle.frame.specs.Bytes.{fold}
 use Rattle.frame.specs.Frame.{frameOf}
 use Rattle.reading.proofs.Theorems.{built-reads}
-use Rattle.job.specs.Rules.{Rules}
-use Rattle.reception.specs.Hearing.{heard, heardByte, heardTick, hunted, more, ended, later, keep}
-use Rattle.link.specs.State.{freshLink, noBody}
-use Rattle.step.specs.Step.{decideOn}
-use Rattle.link.specs.Step.{Out, Taken, out, byteBy, byteOut, tickOut, openOut, restartOut, runOut}
+use Rattle.rules.specs.Rules.{Rules}
+use Rattle.hearing.specs.Hearing.{heard, hearByte, hearTick, hunted, more, ended, later, keep}
+use Rattle.link.specs.Link.{freshLink, noBody}
+use Rattle.link.specs.Out.{Out, Taken, out, byteBy, byteOut, tickOut, openOut, restartOut, runOut, heardOut}
 use Rattle.step.specs.Checks.{roomChecks}
 use Rattle.step.specs.declared.checks.Checked.{Checked}
 use Rattle.step.specs.declared.checks.Checked.the-variants.{Passes, Refuses}
-use Rattle.reception.specs.declared.hearing.Partial.{Partial}
-use Rattle.reception.specs.declared.hearing.Hearing.{Hearing}
-use Rattle.reception.specs.declared.hearing.Hearing.the-variants.{Hunting, Head, Body}
-use Rattle.reception.specs.declared.hearing.End.{End}
-use Rattle.reception.specs.declared.hearing.Event.the-variants.{Ended}
-use Rattle.reception.specs.declared.hearing.Heard.{Heard}
-use Rattle.link.specs.declared.state.Link.{Link}
-use Rattle.history.specs.Calls.{What, byte, bytes, tick, send, session, restart, Call, checksOf, outOf, doneBy, perform}
+use Rattle.hearing.specs.declared.hearing.Partial.{Partial}
+use Rattle.hearing.specs.declared.hearing.Hearing.{Hearing}
+use Rattle.hearing.specs.declared.hearing.Hearing.the-variants.{Hunting, Head, Body}
+use Rattle.hearing.specs.declared.hearing.End.{End}
+use Rattle.hearing.specs.declared.hearing.Event.the-variants.{Ended}
+use Rattle.hearing.specs.declared.hearing.Heard.{Heard}
+use Rattle.link.specs.declared.link.Link.{Link}
+use Rattle.history.specs.Perform.{What, byte, bytes, tick, send, session, restart, Call, checksOf, outOf, doneBy, perform}
 use Rattle.history.specs.History.{next, run, after}
 use Rattle.history.specs.Ranges.{All, Comes, ComeAll, IsByte}
 use Rattle.history.specs.Received.{feed, takenBy, ifTaken, received}
 use Rattle.history.specs.HandedUp.{FrameUp, HandedUp, nothing, frame}
 use Rattle.history.proofs.Reception.{pick-by, pick-ok}
-use Rattle.reception.proofs.Theorems.{keep-length}
+use Rattle.hearing.proofs.Theorems.{keep-length}
 use Rattle.history.proofs.Bodies.{partialOf, begun-is, more-is, kept-more}
 use Rattle.history.proofs.Runs.{run-empty, run-bytes, taken-is, run-feeds}
 
@@ -69,7 +68,7 @@ hunted-hears xs d b =
 came-more : (xs before ys : List ℕ) (b : ℕ) → xs ≡ before ++ ys → xs ++ (b ∷ []) ≡ before ++ (ys ++ (b ∷ []))
 came-more xs before ys b e = ap (λ (z : List ℕ). z ++ (b ∷ [])) e ∙ append-assoc before ys (b ∷ [])
 
-byte-hears : (xs d : List ℕ) (b : ℕ) (h : Hearing) → IsByte b → length d ≡ 254 → Hears xs d h → HearsIt xs d b (heardByte b h)
+byte-hears : (xs d : List ℕ) (b : ℕ) (h : Hearing) → IsByte b → length d ≡ 254 → Hears xs d h → HearsIt xs d b (hearByte b h)
 byte-hears xs d b Hunting x r t = hunted-hears xs d b
 byte-hears xs d b (Head clock) x r t =
     pick-by (HearsIt xs d b) (ltb b 3) _ _ (λ _. tt)
@@ -112,7 +111,7 @@ unfolding byteOut
 byte-traced R xs l b x t =
     record {
       hears = byte-hears xs (l .body) b (l .core .hearing) x (t .body) (t .hears);
-      body = keep-length ((heardByte b (l .core .hearing)) .event) b (l .body) ∙ t .body;
+      body = keep-length ((hearByte b (l .core .hearing)) .event) b (l .body) ∙ t .body;
     }
 
 feed-traced : (R : Rules) (bs xs : List ℕ) (l : Link) → All IsByte bs → Traced xs l → Traced (xs ++ bs) (feed R l bs)
@@ -125,7 +124,7 @@ feed-traced R (b ∷ bs) xs l x t =
 abbrev TickHears : List ℕ → List ℕ → Heard → Type 0
 TickHears xs d r = Hears xs d (r .hearing)
 
-tick-hears : (xs d : List ℕ) (h : Hearing) → Hears xs d h → TickHears xs d (heardTick h)
+tick-hears : (xs d : List ℕ) (h : Hearing) → Hears xs d h → TickHears xs d (hearTick h)
 tick-hears xs d Hunting t = tt
 tick-hears xs d (Head c) t = pick-ok (TickHears xs d) (ltb (c + 1) 1501) _ _ t tt
 tick-hears xs d (Body p) t =
@@ -193,7 +192,7 @@ record WholeFrame (xs d : List ℕ) (p : Partial) : Type 0 where
   type : p .kind ≡ kind
 
 whole-by : (xs d before : List ℕ) (len clock b : ℕ) (bs : List ℕ) → xs ≡ before ++ (1 ∷ len ∷ bs) → 3 ≤ len → length bs ≡ len - 1 → take (length bs) d ≡ bs
-    → b ≡ xorAll 255 (len ∷ bs) → WholeFrame (xs ++ (b ∷ [])) d (partialOf clock len bs)
+    → b ≡ fold 255 (len ∷ bs) → WholeFrame (xs ++ (b ∷ [])) d (partialOf clock len bs)
 unfolding frameOf
 whole-by xs d before len clock b [] c k n e q = absurd (omega arith)
 whole-by xs d before len clock b (x ∷ []) c k n e q = absurd (omega arith)
@@ -207,7 +206,7 @@ whole-by xs d before len clock b (x ∷ y ∷ ps) c k n e q =
       came =
           came-more xs before (1 ∷ len ∷ x ∷ y ∷ ps) b c
           ∙ ap (λ (z : ℕ). before ++ (1 ∷ len ∷ x ∷ y ∷ (ps ++ (z ∷ [])))) q
-          ∙ ap (λ (z : ℕ). before ++ (1 ∷ z ∷ x ∷ y ∷ (ps ++ (xorAll 255 (z ∷ x ∷ y ∷ ps) ∷ [])))) m;
+          ∙ ap (λ (z : ℕ). before ++ (1 ∷ z ∷ x ∷ y ∷ (ps ++ (fold 255 (z ∷ x ∷ y ∷ ps) ∷ [])))) m;
       body = ap (λ (i : ℕ). take i d) (sym n) ∙ e;
       type = refl;
     }
@@ -243,7 +242,7 @@ right-hands xs R l b p w =
     (λ e. let k : p .kind ≡ 1 = eqb-true _ _ e in frame (frame-up _ p (l .body) _ w (omega arith) refl))
     (λ _. nothing refl))
 
-hands : (xs : List ℕ) (R : Rules) (l : Link) (b : ℕ) (h : Hearing) → Hears xs (l .body) h → Hands xs R l b (heardByte b h)
+hands : (xs : List ℕ) (R : Rules) (l : Link) (b : ℕ) (h : Hearing) → Hears xs (l .body) h → Hands xs R l b (hearByte b h)
 hands xs R l b Hunting t =
     pick-ok (Hands xs R l b) (eqb b 1) _ _ (nothing refl)
     (pick-ok (Hands xs R l b) (eqb b 6) _ _ (nothing refl) (pick-ok (Hands xs R l b) (eqb b 21) _ _ (nothing refl) (pick-ok (Hands xs R l b) (eqb b 24) _ _ (nothing refl) (nothing refl))))
@@ -273,9 +272,9 @@ run-hands R xs l (b ∷ bs) x t =
     (byte-hands R (xs ++ u .before) (feed R l (u .before)) (u .last) k))
 
 abbrev HandsNone : Rules → Link → Heard → Type 0
-HandsNone R l r = (out (l .body) (l .frame) (decideOn R (l .core) r)) .up ≡ []
+HandsNone R l r = (heardOut R (l .core) (l .body) (l .frame) r) .up ≡ []
 
-tick-hands : (R : Rules) (l : Link) (h : Hearing) → HandsNone R l (heardTick h)
+tick-hands : (R : Rules) (l : Link) (h : Hearing) → HandsNone R l (hearTick h)
 tick-hands R l Hunting = refl
 tick-hands R l (Head c) = pick-ok (HandsNone R l) (ltb (c + 1) 1501) _ _ refl refl
 tick-hands R l (Body p) = pick-ok (HandsNone R l) (ltb (p .clock + 1) 1501) _ _ refl refl

@@ -6,19 +6,19 @@ use mathlib.Core.Bool.{false}
 use mathlib.Core.List.{List, [], _∷_}
 use lib.ListN.{length}
 use Rattle.frame.specs.Frame.{frameOf}
-use Rattle.job.specs.Rules.{Rules}
+use Rattle.rules.specs.Rules.{Rules}
 use Rattle.job.specs.Job.{isOpen}
-use Rattle.link.specs.State.{freshLink}
-use Rattle.link.specs.Step.{Out, Taken, byteOut, tickOut, openOut, restartOut, news, runFrom, quiet}
-use Rattle.step.specs.Checks.{sendChecks, sessionChecks, roomChecks}
+use Rattle.link.specs.Link.{freshLink}
+use Rattle.link.specs.Out.{Out, Taken, byteOut, tickOut, openOut, restartOut, news, runFrom, quiet}
+use Rattle.step.specs.Checks.{sendOwn, sessionOwn, roomChecks}
 use Rattle.step.proofs.Passed.{room-passed}
 use Rattle.step.proofs.Passed as checks
 use Rattle.step.specs.declared.checks.Checked.{Checked}
 use Rattle.step.specs.declared.checks.Checked.the-variants.{Passes, Refuses}
 use Rattle.job.specs.declared.job.Asking.{Asking}
 use Rattle.job.specs.declared.job.Asking.the-variants.{Plain, Asks}
-use Rattle.link.specs.declared.state.Link.{Link}
-use Rattle.history.specs.Calls.{What, byte, bytes, tick, send, session, restart, Call, checksOf, outOf, took, doneBy, perform}
+use Rattle.link.specs.declared.link.Link.{Link}
+use Rattle.history.specs.Perform.{What, byte, bytes, tick, send, session, restart, Call, checksOf, outOf, took, doneBy, perform}
 use Rattle.history.specs.History.{next, run, after}
 use Rattle.history.specs.Ranges.{All, Comes, ComeAll}
 use Rattle.history.proofs.Reception.{pick-ok, InTime, byte-steps, tick-steps}
@@ -28,12 +28,12 @@ pub record Free (l : Link) (n : ℕ) : Type 0 where
   pub idle : isOpen (l .core .job) ≡ false
   pub fits : n ≤ 252
 
-pub send-passed : (l : Link) (kind n : ℕ) → sendChecks (l .core .job) kind n ≡ Passes → Free l n
+pub send-passed : (l : Link) (kind n : ℕ) → sendOwn (l .core .job) kind n ≡ Passes → Free l n
 send-passed l kind n e =
     let p = checks.send-passed (l .core .job) kind n e in
     record { idle = p .0; fits = p .2 }
 
-pub session-passed : (l : Link) (n : ℕ) → sessionChecks (l .core .job) n ≡ Passes → Free l n
+pub session-passed : (l : Link) (n : ℕ) → sessionOwn (l .core .job) n ≡ Passes → Free l n
 session-passed l n e =
     let p = checks.session-passed (l .core .job) n e in
     record { idle = p .0; fits = p .1 }

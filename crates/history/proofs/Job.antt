@@ -8,28 +8,28 @@ use native.Mathlib.Nat.{not-suc-le-zero}
 use native.Mathlib.Numerals.{add-one}
 use lib.Dec.{eqb, ltb}
 use borrow.Author.Tests.{ltb-true, ltb-false, eqb-false, lt-ltb}
-use Rattle.frame.specs.Pick.{pick}
-use Rattle.job.specs.Rules.{Rules, Cause, told, time}
+use Rattle.refusals.specs.Pick.{pick}
+use Rattle.rules.specs.Rules.{Rules, Cause, told, time}
 use Rattle.job.specs.Job.{goesOn, still, nextCopy, putOut, start, fail, backOff, lose}
 use Rattle.job.specs.Ticks.{awaited, onTick, onAbort}
-use Rattle.sending.specs.Events.{acknowledge, onSingle, release, awaits, copiesOf, respond, onEnd, act}
-use Rattle.reception.specs.declared.hearing.Hearing.{Hearing}
-use Rattle.reception.specs.declared.hearing.Single.{Single}
-use Rattle.reception.specs.declared.hearing.Single.the-variants.{Ack, Nak, Can}
-use Rattle.reception.specs.declared.hearing.End.{End}
-use Rattle.reception.specs.declared.hearing.End.the-variants as end
-use Rattle.reception.specs.declared.hearing.Event.{Event}
-use Rattle.reception.specs.declared.hearing.Event.the-variants.{Inside, Kept, Skipped, Alone, Ended, TickHunting, TickInside, Aborted}
+use Rattle.sending.specs.Events.{acknowledge, onSingle, release, awaits, copiesOf, respond, onEnd, onEvent}
+use Rattle.hearing.specs.declared.hearing.Hearing.{Hearing}
+use Rattle.hearing.specs.declared.hearing.Single.{Single}
+use Rattle.hearing.specs.declared.hearing.Single.the-variants.{Ack, Nak, Can}
+use Rattle.hearing.specs.declared.hearing.End.{End}
+use Rattle.hearing.specs.declared.hearing.End.the-variants as end
+use Rattle.hearing.specs.declared.hearing.Event.{Event}
+use Rattle.hearing.specs.declared.hearing.Event.the-variants.{Inside, Kept, Skipped, Alone, Ended, TickHunting, TickInside, Aborted}
 use Rattle.job.specs.declared.job.Act.{Act}
 use Rattle.job.specs.declared.job.Asking.{Asking}
 use Rattle.job.specs.declared.job.Asking.the-variants.{Plain, Asks}
 use Rattle.job.specs.declared.job.Job.{Job}
 use Rattle.job.specs.declared.job.Job.the-variants.{Idle, Due, Waiting, BackingOff, Awaiting}
-use Rattle.job.specs.declared.report.Reset.the-variants as reset
-use Rattle.job.specs.declared.report.Sending.{Sending}
-use Rattle.job.specs.declared.report.Sending.the-variants as sending
-use Rattle.job.specs.declared.report.Session.the-variants as session
-use Rattle.job.specs.declared.report.Session.{Session}
+use Rattle.report.specs.declared.Reset.the-variants as reset
+use Rattle.report.specs.declared.Sending.{Sending}
+use Rattle.report.specs.declared.Sending.the-variants as sending
+use Rattle.report.specs.declared.Session.the-variants as session
+use Rattle.report.specs.declared.Session.{Session}
 use Rattle.history.specs.Watch.{Verdict, copiesIn, isFailure, isOwn, Says, none, says, both, together, beside, sendVerdict, sessionVerdict, verdictIn}
 use Rattle.history.specs.Bound.{Fits, tail, extra}
 use Rattle.history.proofs.Reception.{pick-by, room, Within, WithinIf, Stays, Passes, Aborts, Alones, Tells, ticksAt}
@@ -80,13 +80,13 @@ ones b = pick b 1 0
 pub record Going (R : Rules) (g : ℕ → ℕ) (size : ℕ) (h : Hearing) (L n t : ℕ) (a : Asking) (job : Job) (copy : Bool) : Type 0 where
   pub good : Good R size h a job
   pub less : left R g size h job + t ≤ L
-  pub count : copiesOf job ≡ n + ones copy
+  pub verdictCount : copiesOf job ≡ n + ones copy
 
 -- an act with a verdict
 pub record Over (L n t : ℕ) (v : Verdict) (a : Asking) (job : Job) (copy : Bool) : Type 0 where
   pub soon : t ≤ L
   pub own : isOwn a v ≡ true
-  pub count : copiesIn v ≡ n + ones copy
+  pub verdictCount : copiesIn v ≡ n + ones copy
   pub few : copiesIn v ≤ 4
   pub four : isFailure v ≡ true → copiesIn v ≡ 4
   pub idle : job ≡ Idle
@@ -242,7 +242,7 @@ module _ (R : Rules) (g : ℕ → ℕ) (fit : Fits R g) (size : ℕ) where
   none-within q = record { on = λ i. absurd (q i); down = λ i. absurd (q i) }
 
   pub act-ok : (e : Event) (h h′ : Hearing) {a : Asking} {job : Job} → Tells e h h′ → Good R size h a job
-      → C h′ (left R g size h job) (copiesOf job) (ticksAt e) a (act R size e job)
+      → C h′ (left R g size h job) (copiesOf job) (ticksAt e) a (onEvent R size e job)
   act-ok Inside h h′ q d = keep-ok h h′ q d
   act-ok (Kept at) h h′ q d = keep-ok h h′ q d
   act-ok Skipped h h′ q d = keep-ok h h′ (none-within q) d

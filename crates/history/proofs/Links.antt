@@ -7,41 +7,43 @@ use mathlib.Core.List.{List, [], _∷_, _++_, append-nil}
 use native.Mathlib.Omega.{arith}
 use lib.Dec.{eqb, ltb}
 use lib.ListN.{take}
-use Rattle.frame.specs.Pick.{pick}
-use Rattle.job.specs.Rules.{Rules, told}
-use Rattle.reception.specs.Hearing.{heardByte, heardTick}
+use Rattle.refusals.specs.Pick.{pick}
+use Rattle.rules.specs.Rules.{Rules, told}
+use Rattle.hearing.specs.Hearing.{hearByte, hearTick}
 use Rattle.job.specs.Job.{still}
-use Rattle.sending.specs.Events.{onSingle, awaits, copiesOf, act}
-use Rattle.report.specs.Report.{replyBytes, saidEnd, saidOn, sumsOn, newsReception, newsSending}
-use Rattle.step.specs.Step.{outcome, decision, decideOn}
-use Rattle.link.specs.Step.{Out, Taken, out, byteBy, byteOut, tickOut, news, quiet, runFrom, runOut}
-use Rattle.reception.specs.declared.hearing.Hearing.{Hearing}
-use Rattle.reception.specs.declared.hearing.Single.{Single}
-use Rattle.reception.specs.declared.hearing.Single.the-variants.{Ack, Nak, Can}
-use Rattle.reception.specs.declared.hearing.End.{End}
-use Rattle.reception.specs.declared.hearing.End.the-variants as end
-use Rattle.reception.specs.declared.hearing.Event.{Event}
-use Rattle.reception.specs.declared.hearing.Event.the-variants.{Inside, Kept, Skipped, Alone, Ended, TickHunting, TickInside, Aborted}
-use Rattle.reception.specs.declared.hearing.Heard.{Heard}
+use Rattle.sending.specs.Events.{onSingle, awaits, copiesOf, onEvent, awaitedBy}
+use Rattle.report.specs.Report.{newsReception, newsSending}
+use Rattle.step.specs.Decide.{decided}
+use Rattle.link.specs.Out.{Out, Taken, out, byteBy, byteOut, tickOut, news, quiet, runFrom, runOut, heardOut}
+use Rattle.hearing.specs.declared.hearing.Hearing.{Hearing}
+use Rattle.hearing.specs.declared.hearing.Single.{Single}
+use Rattle.hearing.specs.declared.hearing.Single.the-variants.{Ack, Nak, Can}
+use Rattle.hearing.specs.declared.hearing.End.{End}
+use Rattle.hearing.specs.declared.hearing.End.the-variants as end
+use Rattle.hearing.specs.declared.hearing.Event.{Event}
+use Rattle.hearing.specs.declared.hearing.Event.the-variants.{Inside, Kept, Skipped, Alone, Ended, TickHunting, TickInside, Aborted}
+use Rattle.hearing.specs.declared.hearing.Heard.{Heard}
 use Rattle.job.specs.declared.job.Act.{Act}
 use Rattle.job.specs.declared.job.Asking.{Asking}
 use Rattle.job.specs.declared.job.Asking.the-variants.{Plain, Asks}
 use Rattle.job.specs.declared.job.Job.{Job}
 use Rattle.job.specs.declared.job.Job.the-variants.{Idle, Due, Waiting, BackingOff, Awaiting}
-use Rattle.job.specs.declared.report.Sending.the-variants as sending
-use Rattle.job.specs.declared.report.Session.the-variants as session
-use Rattle.report.specs.declared.report.Reception.{Reception}
-use Rattle.report.specs.declared.report.Reply.{Reply}
-use Rattle.report.specs.declared.report.Reply.the-variants as reply
-use Rattle.report.specs.declared.report.Said.{Said}
-use Rattle.report.specs.declared.report.Sums.{Sums}
-use Rattle.link.specs.declared.state.Link.{Link}
+use Rattle.report.specs.declared.Sending.the-variants as sending
+use Rattle.report.specs.declared.Session.the-variants as session
+use Rattle.report.specs.declared.Reception.{Reception}
+use Rattle.reception.specs.declared.said.Reply.{Reply}
+use Rattle.reception.specs.declared.said.Reply.the-variants as reply
+use Rattle.reception.specs.declared.said.Said.{Said}
+use Rattle.reception.specs.declared.sums.Sums.{Sums}
+use Rattle.link.specs.declared.link.Link.{Link}
 use Rattle.history.specs.Cut.{ack, nak}
 use Rattle.history.specs.Watch.{Verdict, copiesIn, isFailure, isOwn, Says, none, says, both, verdictIn, verdictOf}
 use Rattle.history.specs.Bound.{Fits}
 use Rattle.history.proofs.Mix.{Mix, end as finish, one, copy, mix-append}
 use Rattle.history.proofs.Reception.{pick-by, pick-ok, InTime, Steps, ticksAt, byte-steps, tick-steps}
 use Rattle.history.proofs.Job.{Good, left, ones, Claim, no-verdict, act-ok}
+use Rattle.reception.specs.Said.{replyBytes, saidEnd, saidOn}
+use Rattle.reception.specs.Sums.{sumsOn}
 
 -- ---- a byte whose report is no more than "nothing" or "skipped" changes the job in nothing, puts nothing out and hands nothing up
 single-news : (R : Rules) (s : Single) (j : Job) → newsSending ((onSingle R s j) .sending) ≡ true
@@ -56,7 +58,7 @@ single-news R Nak (Waiting a n e) =
 single-news R Can (Waiting a n e) =
     pick-ok (λ (x : Act). newsSending (x .sending) ≡ true) (ltb n 4) _ _ (pick-ok (λ (x : Act). newsSending (x .sending) ≡ true) (eqb (R .back told n) 0) _ _ refl refl) refl
 
-end-news : (e : End) (j : Job) → newsReception ((saidEnd e j) .reception) ≡ true
+end-news : (e : End) (j : Job) → newsReception ((saidEnd e (awaitedBy j)) .reception) ≡ true
 end-news end.BadLength j = refl
 end-news end.BadSum j = refl
 end-news end.Reserved j = refl
@@ -64,11 +66,11 @@ end-news (end.Request size) j = refl
 end-news (end.Response size command) j = pick-ok (λ (x : Reception). newsReception x ≡ true) (awaits command j) _ _ refl refl
 
 pub record Calm (R : Rules) (size : ℕ) (e : Event) (j : Job) : Type 0 where
-  pub job : act R size e j ≡ still j
-  pub silent : (saidOn e j) .reply ≡ reply.Silent
-  pub none-up : (saidOn e j) .up ≡ 0
+  pub job : onEvent R size e j ≡ still j
+  pub silent : (saidOn e (awaitedBy j)) .reply ≡ reply.Silent
+  pub none-up : (saidOn e (awaitedBy j)) .up ≡ 0
 
-calm : (R : Rules) (size : ℕ) (e : Event) (j : Job) → ticksAt e ≡ 0 → newsReception ((saidOn e j) .reception) ≡ false → newsSending ((act R size e j) .sending) ≡ false → Calm R size e j
+calm : (R : Rules) (size : ℕ) (e : Event) (j : Job) → ticksAt e ≡ 0 → newsReception ((saidOn e (awaitedBy j)) .reception) ≡ false → newsSending ((onEvent R size e j) .sending) ≡ false → Calm R size e j
 calm R size Inside j t p q = record { job = refl; silent = refl; none-up = refl }
 calm R size (Kept at) j t p q = record { job = refl; silent = refl; none-up = refl }
 calm R size Skipped j t p q = record { job = refl; silent = refl; none-up = refl }
@@ -87,9 +89,9 @@ calm-byte R l b r t e =
     let p = neither _ _ e in
     calm R (l .core .size) (r .event) (l .core .job) t (p .0) ((neither _ _ (p .1)) .0)
 
-pub calm-line : (R : Rules) (size : ℕ) (e : Event) (j : Job) (held : List ℕ) → Calm R size e j → replyBytes ((saidOn e j) .reply) ++ pick ((act R size e j) .copy) held [] ≡ []
+pub calm-line : (R : Rules) (size : ℕ) (e : Event) (j : Job) (held : List ℕ) → Calm R size e j → replyBytes ((saidOn e (awaitedBy j)) .reply) ++ pick ((onEvent R size e j) .copy) held [] ≡ []
 calm-line R size e j held m =
-    ap (λ (y : Reply). replyBytes y ++ pick ((act R size e j) .copy) held []) (m .silent) ∙ ap (λ (y : Act). pick (y .copy) held []) (m .job)
+    ap (λ (y : Reply). replyBytes y ++ pick ((onEvent R size e j) .copy) held []) (m .silent) ∙ ap (λ (y : Act). pick (y .copy) held []) (m .job)
 
 -- ---- a link with an open send or session of the frame f
 pub record Sends (R : Rules) (f : List ℕ) (a : Asking) (l : Link) : Type 0 where
@@ -106,7 +108,7 @@ pub record Goes (R : Rules) (g : ℕ → ℕ) (f : List ℕ) (a : Asking) (L n t
   pub less : leftOn R g (o .link) + t ≤ L
   pub more : ℕ
   pub mix : Mix f more (o .line)
-  pub count : copiesOf (o .link .core .job) ≡ n + more
+  pub verdictCount : copiesOf (o .link .core .job) ≡ n + more
 
 -- and with a verdict
 pub record Ends (f : List ℕ) (a : Asking) (L n t : ℕ) (v : Verdict) (line : List ℕ) : Type 0 where
@@ -114,7 +116,7 @@ pub record Ends (f : List ℕ) (a : Asking) (L n t : ℕ) (v : Verdict) (line : 
   pub own : isOwn a v ≡ true
   pub more : ℕ
   pub mix : Mix f more line
-  pub count : copiesIn v ≡ n + more
+  pub verdictCount : copiesIn v ≡ n + more
   pub few : copiesIn v ≤ 4
   pub four : isFailure v ≡ true → copiesIn v ≡ 4
 
@@ -135,7 +137,7 @@ copy-mix f l e false = finish
 module _ (R : Rules) (g : ℕ → ℕ) (fit : Fits R g) (f : List ℕ) (a : Asking) where
   -- what the job's act comes to on the line, for any Says
   lift : (s : Says) (body frame : List ℕ) (h : Hearing) (size : ℕ) (q : Said) (z : Sums) (x : Act) (L n t : ℕ) → InTime h → take size frame ≡ f
-      → Claim R g size h L n t s a (x .job) (x .copy) → Outcome R g f a L n t s (out body frame (decision h size (outcome q z x)))
+      → Claim R g size h L n t s a (x .job) (x .copy) → Outcome R g f a L n t s (out body frame h size (decided q z x))
   lift none body frame h size q z x L n t i e c =
       record {
         sends = record { time = i; good = c .good; held = e };
@@ -160,7 +162,7 @@ module _ (R : Rules) (g : ℕ → ℕ) (fit : Fits R g) (f : List ℕ) (a : Aski
 
   pub lifted : (body frame : List ℕ) (h : Hearing) (size : ℕ) (q : Said) (z : Sums) (x : Act) (L n t : ℕ) → InTime h → take size frame ≡ f
       → Claim R g size h L n t (verdictIn a (x .sending) (x .session)) a (x .job) (x .copy)
-      → Outcome R g f a L n t (verdictIn a (x .sending) (x .session)) (out body frame (decision h size (outcome q z x)))
+      → Outcome R g f a L n t (verdictIn a (x .sending) (x .session)) (out body frame h size (decided q z x))
   lifted body frame h size q z x L n t i e c = lift (verdictIn a (x .sending) (x .session)) body frame h size q z x L n t i e c
 
   -- o is what a call of t ticks gave, with so many ticks left and so many copies before it
@@ -168,21 +170,21 @@ module _ (R : Rules) (g : ℕ → ℕ) (fit : Fits R g) (f : List ℕ) (a : Aski
   Gave L n t o = Outcome R g f a L n t (verdictOf a o) o
 
   on-heard : (t : ℕ) (l : Link) (body : List ℕ) (r : Heard) → Steps t (l .core .hearing) r → Sends R f a l
-      → Gave (leftOn R g l) (copiesOf (l .core .job)) t (out body (l .frame) (decideOn R (l .core) r))
+      → Gave (leftOn R g l) (copiesOf (l .core .job)) t (heardOut R (l .core) body (l .frame) r)
   on-heard t l body r k d =
-      let x = act R (l .core .size) (r .event) (l .core .job) in
-      lifted body (l .frame) (r .hearing) (l .core .size) (saidOn (r .event) (l .core .job)) (sumsOn (r .event) (l .core .bad)) x _ _ t (k .ok) (d .held)
+      let x = onEvent R (l .core .size) (r .event) (l .core .job) in
+      lifted body (l .frame) (r .hearing) (l .core .size) (saidOn (r .event) (awaitedBy (l .core .job))) (sumsOn (r .event) (l .core .bad)) x _ _ t (k .ok) (d .held)
       (subst
       (λ (u : ℕ). Claim R g (l .core .size) (r .hearing) (leftOn R g l) (copiesOf (l .core .job)) u (verdictIn a (x .sending) (x .session)) a (x .job) (x .copy))
       (k .time) (act-ok R g fit (l .core .size) (r .event) (l .core .hearing) (r .hearing) (k .tells) (d .good)))
 
   pub byte-gave : (l : Link) (b : ℕ) → Sends R f a l → Gave (leftOn R g l) (copiesOf (l .core .job)) 0 (byteOut R l b)
   unfolding byteOut
-  byte-gave l b d = on-heard 0 l _ (heardByte b (l .core .hearing)) (byte-steps b (l .core .hearing) (d .time)) d
+  byte-gave l b d = on-heard 0 l _ (hearByte b (l .core .hearing)) (byte-steps b (l .core .hearing) (d .time)) d
 
   pub tick-gave : (l : Link) → Sends R f a l → Gave (leftOn R g l) (copiesOf (l .core .job)) 1 (tickOut R l)
   unfolding tickOut
-  tick-gave l d = on-heard 1 l (l .body) (heardTick (l .core .hearing)) (tick-steps (l .core .hearing) (d .time)) d
+  tick-gave l d = on-heard 1 l (l .body) (hearTick (l .core .hearing)) (tick-steps (l .core .hearing) (d .time)) d
 
   -- ---- a run of bytes: quiet bytes first, then its last
   pub record Quiet (L n : ℕ) (o : Out) : Type 0 where
@@ -209,9 +211,9 @@ module _ (R : Rules) (g : ℕ → ℕ) (fit : Fits R g) (f : List ℕ) (a : Aski
   quiet-byte : (L n : ℕ) (l : Link) (b : ℕ) → Sends R f a l → leftOn R g l ≤ L → copiesOf (l .core .job) ≡ n → news (byteOut R l b) ≡ false → Quiet L n (byteOut R l b)
   unfolding byteOut
   quiet-byte L n l b d h e w =
-      let r = heardByte b (l .core .hearing) in
+      let r = hearByte b (l .core .hearing) in
       let k = byte-steps b (l .core .hearing) (d .time) in
-      let x = act R (l .core .size) (r .event) (l .core .job) in
+      let x = onEvent R (l .core .size) (r .event) (l .core .job) in
       let m = calm-byte R l b r (k .time) w in
       let v : verdictIn a (x .sending) (x .session) ≡ none = ap (λ (y : Act). verdictIn a (y .sending) (y .session)) (m .job) ∙ still-none (l .core .job) in
       let c : Goes R g f a (leftOn R g l) (copiesOf (l .core .job)) 0 (byteOut R l b) = subst (λ (s : Says). Outcome R g f a (leftOn R g l) (copiesOf (l .core .job)) 0 s (byteOut R l b)) v (byte-gave l b d) in

@@ -9,7 +9,7 @@ use native.Mathlib.Nat.{zero-add, suc-add, not-suc-le-zero}
 use lib.Dec.{eqb}
 use lib.ListN.{length, take, drop, getD, replicate, length-append, take-append-drop, length-drop}
 use lib.Seq.{take-at, drop-at}
-use Rattle.frame.specs.Pick.{pick}
+use Rattle.refusals.specs.Pick.{pick}
 use Rattle.history.specs.Cut.{Piece, single, whole, cutInto, cut, framesOf, frames, singlesOf, singles, IsAnswer, ack, nak, joined}
 use Rattle.history.specs.Ranges.{All}
 use Rattle.history.proofs.Reception.{pick-by}

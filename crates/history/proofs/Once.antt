@@ -7,38 +7,38 @@ use mathlib.Core.List.{List, [], _∷_, _++_}
 use native.Mathlib.Omega.{arith}
 use lib.Dec.{eqb, ltb}
 use lib.ListN.{length, take, replicate}
-use Rattle.frame.specs.Pick.{pick}
-use Rattle.job.specs.Rules.{Rules, Cause, told, time}
+use Rattle.refusals.specs.Pick.{pick}
+use Rattle.rules.specs.Rules.{Rules, Cause, told, time}
 use Rattle.job.specs.Job.{start, fail, lose}
 use Rattle.job.specs.Ticks.{onTick, onAbort}
-use Rattle.reception.specs.Hearing.{heardByte, heardTick}
-use Rattle.sending.specs.Events.{acknowledge, onSingle, release, awaits, onEnd, act, copiesOf, abandonedSend, abandonedAsk, onRestart}
-use Rattle.report.specs.Report.{replyBytes, saidOn}
-use Rattle.link.specs.Step.{Out, Taken, byteOut, tickOut, restartOut, news, runFrom, runOut, quiet}
+use Rattle.hearing.specs.Hearing.{hearByte, hearTick}
+use Rattle.sending.specs.Events.{acknowledge, onSingle, release, awaits, onEnd, onEvent, copiesOf, abandonedSend, abandonedAsk, onRestart, awaitedBy}
+use Rattle.reception.specs.Said.{replyBytes, saidOn}
+use Rattle.link.specs.Out.{Out, Taken, byteOut, tickOut, restartOut, news, runFrom, runOut, quiet}
 use Rattle.step.specs.Checks.{roomChecks}
 use Rattle.step.proofs.Passed.{room-passed}
 use Rattle.step.specs.declared.checks.Checked.{Checked}
 use Rattle.step.specs.declared.checks.Checked.the-variants.{Passes, Refuses}
-use Rattle.reception.specs.declared.hearing.Hearing.{Hearing}
-use Rattle.reception.specs.declared.hearing.Single.{Single}
-use Rattle.reception.specs.declared.hearing.Single.the-variants.{Ack, Nak, Can}
-use Rattle.reception.specs.declared.hearing.End.{End}
-use Rattle.reception.specs.declared.hearing.End.the-variants as end
-use Rattle.reception.specs.declared.hearing.Event.{Event}
-use Rattle.reception.specs.declared.hearing.Event.the-variants.{Inside, Kept, Skipped, Alone, Ended, TickHunting, TickInside, Aborted}
+use Rattle.hearing.specs.declared.hearing.Hearing.{Hearing}
+use Rattle.hearing.specs.declared.hearing.Single.{Single}
+use Rattle.hearing.specs.declared.hearing.Single.the-variants.{Ack, Nak, Can}
+use Rattle.hearing.specs.declared.hearing.End.{End}
+use Rattle.hearing.specs.declared.hearing.End.the-variants as end
+use Rattle.hearing.specs.declared.hearing.Event.{Event}
+use Rattle.hearing.specs.declared.hearing.Event.the-variants.{Inside, Kept, Skipped, Alone, Ended, TickHunting, TickInside, Aborted}
 use Rattle.job.specs.declared.job.Act.{Act}
 use Rattle.job.specs.declared.job.Asking.{Asking}
 use Rattle.job.specs.declared.job.Asking.the-variants.{Plain, Asks}
 use Rattle.job.specs.declared.job.Job.{Job}
 use Rattle.job.specs.declared.job.Job.the-variants.{Idle, Due, Waiting, BackingOff, Awaiting}
-use Rattle.job.specs.declared.report.Sending.the-variants as sending
-use Rattle.job.specs.declared.report.Session.the-variants as session
-use Rattle.report.specs.declared.report.Reply.{Reply}
-use Rattle.link.specs.declared.state.Link.{Link}
-use Rattle.history.specs.Calls.{What, byte, bytes, tick, send, session as sessionCall, restart, Call, checksOf, outOf, doneBy}
+use Rattle.report.specs.declared.Sending.the-variants as sending
+use Rattle.report.specs.declared.Session.the-variants as session
+use Rattle.reception.specs.declared.said.Reply.{Reply}
+use Rattle.link.specs.declared.link.Link.{Link}
+use Rattle.history.specs.Perform.{What, byte, bytes, tick, send, session as sessionCall, restart, Call, checksOf, outOf, doneBy}
 use Rattle.history.specs.Cut.{nak}
 use Rattle.history.specs.Bound.{Fits}
-use Rattle.history.specs.Watch.{copiesIn, Says, none, says, both, sendVerdict, sessionVerdict, verdictIn, verdictOf, Watch, going, gone, ended, add, onward, watchTaken, watchDone, watch, outsTaken, outsDone, outs, count, verdictsOf, abandonsIn, abandonsOf, linesOf, verdictsBy, abandonsBy}
+use Rattle.history.specs.Watch.{copiesIn, Says, none, says, both, sendVerdict, sessionVerdict, verdictIn, verdictOf, Watch, going, gone, ended, add, onward, watchTaken, watchDone, watch, outsTaken, outsDone, outs, verdictCount, verdictsOf, abandonsIn, abandonsOf, linesOf, verdictsBy, abandonsBy}
 use Rattle.history.specs.Demand3.{Spent}
 use Rattle.history.proofs.Mix.{Mix, end as finish, one, mix-append, IsFrame, mix-frames}
 use Rattle.history.proofs.Reception.{pick-ok}
@@ -104,7 +104,7 @@ abort-unsaid R size (Waiting a n e) = time-unsaid R size true (Waiting a n e)
 abort-unsaid R size (BackingOff a n b) = time-unsaid R size true (BackingOff a n b)
 abort-unsaid R size (Awaiting c n e) = time-unsaid R size true (Awaiting c n e)
 
-act-unsaid : (R : Rules) (size : ℕ) (e : Event) (j : Job) → Unsaid (act R size e j)
+act-unsaid : (R : Rules) (size : ℕ) (e : Event) (j : Job) → Unsaid (onEvent R size e j)
 act-unsaid R size Inside j = refl
 act-unsaid R size (Kept at) j = refl
 act-unsaid R size Skipped j = refl
@@ -119,11 +119,11 @@ NotAbandoned o = abandonsIn (o .sending) (o .session) ≡ 0
 
 pub byte-unsaid : (R : Rules) (l : Link) (b : ℕ) → NotAbandoned (byteOut R l b)
 unfolding byteOut
-byte-unsaid R l b = act-unsaid R (l .core .size) ((heardByte b (l .core .hearing)) .event) (l .core .job)
+byte-unsaid R l b = act-unsaid R (l .core .size) ((hearByte b (l .core .hearing)) .event) (l .core .job)
 
 pub tick-unsaid : (R : Rules) (l : Link) → NotAbandoned (tickOut R l)
 unfolding tickOut
-tick-unsaid R l = act-unsaid R (l .core .size) ((heardTick (l .core .hearing)) .event) (l .core .job)
+tick-unsaid R l = act-unsaid R (l .core .size) ((hearTick (l .core .hearing)) .event) (l .core .job)
 
 from-unsaid : (R : Rules) (bs : List ℕ) (k : ℕ) (o : Out) → NotAbandoned o → NotAbandoned ((runFrom R o k bs) .out)
 unfolding runFrom
@@ -184,7 +184,7 @@ record Still (x : Act) : Type 0 where
   idle : x .job ≡ Idle
   copy : x .copy ≡ false
 
-act-rests : (R : Rules) (size : ℕ) (e : Event) → Still (act R size e Idle)
+act-rests : (R : Rules) (size : ℕ) (e : Event) → Still (onEvent R size e Idle)
 act-rests R size Inside = record { send = refl; ask = refl; idle = refl; copy = refl }
 act-rests R size (Kept at) = record { send = refl; ask = refl; idle = refl; copy = refl }
 act-rests R size Skipped = record { send = refl; ask = refl; idle = refl; copy = refl }
@@ -198,8 +198,8 @@ act-rests R size TickHunting = record { send = refl; ask = refl; idle = refl; co
 act-rests R size TickInside = record { send = refl; ask = refl; idle = refl; copy = refl }
 act-rests R size Aborted = record { send = refl; ask = refl; idle = refl; copy = refl }
 
-acts-rests : (R : Rules) (size : ℕ) (e : Event) (j : Job) → j ≡ Idle → Still (act R size e j)
-acts-rests R size e j q = subst (λ (x : Job). Still (act R size e x)) (sym q) (act-rests R size e)
+acts-rests : (R : Rules) (size : ℕ) (e : Event) (j : Job) → j ≡ Idle → Still (onEvent R size e j)
+acts-rests R size e j q = subst (λ (x : Job). Still (onEvent R size e x)) (sym q) (act-rests R size e)
 
 pub record Rests (f : List ℕ) (a : Asking) (o : Out) : Type 0 where
   pub verdict : verdictOf a o ≡ none
@@ -225,24 +225,24 @@ module _ (R : Rules) (f : List ℕ) (a : Asking) where
   pub byte-rests : (l : Link) (b : ℕ) → l .core .job ≡ Idle → Rests f a (byteOut R l b)
   unfolding byteOut
   byte-rests l b q =
-      let e = (heardByte b (l .core .hearing)) .event in
+      let e = (hearByte b (l .core .hearing)) .event in
       let k = acts-rests R (l .core .size) e (l .core .job) q in
       record {
         verdict = no-verdict a _ _ (k .send) (k .ask);
         unsaid = byte-unsaid R l b;
-        line = no-copy ((saidOn e (l .core .job)) .reply) _ (take (l .core .size) (l .frame)) (k .copy);
+        line = no-copy ((saidOn e (awaitedBy (l .core .job))) .reply) _ (take (l .core .size) (l .frame)) (k .copy);
         idle = k .idle;
       }
 
   pub tick-rests : (l : Link) → l .core .job ≡ Idle → Rests f a (tickOut R l)
   unfolding tickOut
   tick-rests l q =
-      let e = (heardTick (l .core .hearing)) .event in
+      let e = (hearTick (l .core .hearing)) .event in
       let k = acts-rests R (l .core .size) e (l .core .job) q in
       record {
         verdict = no-verdict a _ _ (k .send) (k .ask);
         unsaid = tick-unsaid R l;
-        line = no-copy ((saidOn e (l .core .job)) .reply) _ (take (l .core .size) (l .frame)) (k .copy);
+        line = no-copy ((saidOn e (awaitedBy (l .core .job))) .reply) _ (take (l .core .size) (l .frame)) (k .copy);
         idle = k .idle;
       }
 
@@ -271,7 +271,7 @@ module _ (R : Rules) (f : List ℕ) (a : Asking) where
   rests-on o os r s =
       record {
         line = mix-append (r .line) (s .line);
-        verdicts = ap₂ (λ (x : Says) (n : ℕ). count x + n) (r .verdict) (s .verdicts);
+        verdicts = ap₂ (λ (x : Says) (n : ℕ). verdictCount x + n) (r .verdict) (s .verdicts);
         abandons = ap₂ (λ (m n : ℕ). m + n) (r .unsaid) (s .abandons);
       }
 
@@ -334,7 +334,7 @@ module _ (R : Rules) (g : ℕ → ℕ) (fit : Fits R g) (f : List ℕ) (a : Aski
         mix = mix-append (c .mix) (r .mix);
         few = omega (arith, c .count, r .few);
         spent = add-spent t _ _ (o .line) w (omega (arith, c .count)) (r .spent);
-        said = ap (λ (x : Says). count x + verdictsOf a os) v ∙ (let e : 0 + verdictsOf a os ≡ verdictsOf a os = omega arith in e) ∙ r .said ∙ add-verdicts t (o .line) w;
+        said = ap (λ (x : Says). verdictCount x + verdictsOf a os) v ∙ (let e : 0 + verdictsOf a os ≡ verdictsOf a os = omega arith in e) ∙ r .said ∙ add-verdicts t (o .line) w;
         abandoned = ap (λ (m : ℕ). m + abandonsOf os) b ∙ (let e : 0 + abandonsOf os ≡ abandonsOf os = omega arith in e) ∙ r .abandoned ∙ add-abandons t (o .line) w;
       }
   onward-sofar (says v) L n t o w os e b c p q =
@@ -344,7 +344,7 @@ module _ (R : Rules) (g : ℕ → ℕ) (fit : Fits R g) (f : List ℕ) (a : Aski
         mix = mix-append (c .0 .mix) (r .line);
         few = omega (arith, c .0 .count, c .0 .few);
         spent = omega (arith, c .0 .count);
-        said = ap₂ (λ (x : Says) (m : ℕ). count x + m) e (r .verdicts);
+        said = ap₂ (λ (x : Says) (m : ℕ). verdictCount x + m) e (r .verdicts);
         abandoned = ap₂ (λ (m k : ℕ). m + k) b (r .abandons);
       }
   onward-sofar (both v u) L n t o w os e b c p q = absurd c
@@ -356,7 +356,7 @@ module _ (R : Rules) (g : ℕ → ℕ) (fit : Fits R g) (f : List ℕ) (a : Aski
         mix = mix-append (restart-line f l) (r .line);
         few = omega (arith, good-few (d .good));
         spent = tt;
-        said = ap₂ (λ (y : Says) (n : ℕ). count y + n) (restart-none a l) (r .verdicts);
+        said = ap₂ (λ (y : Says) (n : ℕ). verdictCount y + n) (restart-none a l) (r .verdicts);
         abandoned = ap₂ (λ (y n : ℕ). y + n) (restart-says d) (r .abandons);
       }
 

@@ -6,18 +6,18 @@ use mathlib.Core.List.{List}
 use lib.ListN.{length}
 use Rattle.frame.specs.Bytes.{over}
 use Rattle.frame.specs.Frame.{frameOf}
-use Rattle.job.specs.Rules.{Rules}
+use Rattle.rules.specs.Rules.{Rules}
 use Rattle.job.specs.declared.job.Asking.the-variants.{Plain, Asks}
-use Rattle.link.specs.State.{freshLink}
-use Rattle.link.specs.Step.{Out, Taken, byteOut, tickOut, openOut, restartOut, runOut}
-use Rattle.step.specs.Checks.{checks, sendChecks, sessionChecks}
+use Rattle.link.specs.Link.{freshLink}
+use Rattle.link.specs.Out.{Out, Taken, byteOut, tickOut, openOut, restartOut, runOut}
+use Rattle.step.specs.Checks.{checks, sendOwn, sessionOwn}
 use Rattle.step.specs.declared.checks.Checked.{Checked}
 use Rattle.step.specs.declared.checks.Checked.the-variants.{Passes, Refuses}
-use Rattle.link.specs.Calls.{answered as answeredBy, ran as ranBy, left, Call as CallPromise, Run as RunPromise}
+use Rattle.link.specs.Calls.{answered as answeredBy, ran as ranBy, left, CallPromise, RunPromise}
 use Rattle.link.specs.declared.calls.Answered.{Answered}
 use Rattle.link.specs.declared.calls.Ran.{Ran}
-use Rattle.link.specs.declared.state.Link.{Link}
-use Rattle.history.specs.Calls.{What, byte, bytes, tick, send, session, restart, Done, doneBy, perform}
+use Rattle.link.specs.declared.link.Link.{Link}
+use Rattle.history.specs.Perform.{What, byte, bytes, tick, send, session, restart, Done, doneBy, perform}
 use Rattle.history.specs.History.{next, run, after}
 use Rattle.history.specs.Played.{answered, ran, Played, played, Promised, byteCall, bytesCall, tickCall, sendCall, sessionCall, restartCall, Plays, none, then, callOf, callsOf, answerOf, runAnswerOf, lineOf, upOf, Tied, AllTied}
 
@@ -84,17 +84,17 @@ module _ (R : Rules) (l : Link) where
       record { link = m .link; tied = record { told = ap answered (m .answer); line-left = m .line-left; up-left = m .up-left } }
 
   pub send-tied : (kind command : ℕ) (ps line up : List ℕ) (r : Answered) (line′ up′ : List ℕ)
-      → CallPromise (sendChecks (l .core .job) kind (length ps)) (openOut l Plain (frameOf kind command ps)) l line up r line′ up′
+      → CallPromise (sendOwn (l .core .job) kind (length ps)) (openOut l Plain (frameOf kind command ps)) l line up r line′ up′
       → Does R l (played (send kind command ps) line up (answered (r .answer)) line′ up′) (r .link)
   send-tied kind command ps line up r line′ up′ p =
-      let m = call-matches (sendChecks (l .core .job) kind (length ps)) (openOut l Plain (frameOf kind command ps)) l line up r line′ up′ p in
+      let m = call-matches (sendOwn (l .core .job) kind (length ps)) (openOut l Plain (frameOf kind command ps)) l line up r line′ up′ p in
       record { link = m .link; tied = record { told = ap answered (m .answer); line-left = m .line-left; up-left = m .up-left } }
 
   pub session-tied : (command : ℕ) (ps line up : List ℕ) (r : Answered) (line′ up′ : List ℕ)
-      → CallPromise (sessionChecks (l .core .job) (length ps)) (openOut l (Asks command) (frameOf 0 command ps)) l line up r line′ up′
+      → CallPromise (sessionOwn (l .core .job) (length ps)) (openOut l (Asks command) (frameOf 0 command ps)) l line up r line′ up′
       → Does R l (played (session command ps) line up (answered (r .answer)) line′ up′) (r .link)
   session-tied command ps line up r line′ up′ p =
-      let m = call-matches (sessionChecks (l .core .job) (length ps)) (openOut l (Asks command) (frameOf 0 command ps)) l line up r line′ up′ p in
+      let m = call-matches (sessionOwn (l .core .job) (length ps)) (openOut l (Asks command) (frameOf 0 command ps)) l line up r line′ up′ p in
       record { link = m .link; tied = record { told = ap answered (m .answer); line-left = m .line-left; up-left = m .up-left } }
 
   pub restart-tied : (line up : List ℕ) (r : Answered) (line′ up′ : List ℕ) → CallPromise Passes (restartOut l) l line up r line′ up′

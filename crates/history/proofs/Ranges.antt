@@ -12,31 +12,31 @@ use borrow.Author.Tests.{ltb-true, ltb-false}
 use Rattle.frame.specs.Frame.{frameOf}
 use Rattle.frame.proofs.Over.{over-length}
 use Rattle.frame.proofs.Theorems.{frame-bounds}
-use Rattle.job.specs.Rules.{Rules, Cause, told, time, base, backOffs}
-use Rattle.reception.specs.Hearing.{heardByte, heardTick, hunted, isHunting}
-use Rattle.reception.proofs.Theorems.{keep-length}
+use Rattle.rules.specs.Rules.{Rules, Cause, told, time, base, backOffs}
+use Rattle.hearing.specs.Hearing.{hearByte, hearTick, hunted, isHunting}
+use Rattle.hearing.proofs.Theorems.{keep-length}
 use Rattle.job.specs.Job.{start, lose}
 use Rattle.job.specs.Ticks.{onTick, onAbort}
-use Rattle.sending.specs.Events.{onSingle, onEnd, release, awaits, act}
-use Rattle.report.specs.Report.{sumsEnd, sumsOn}
-use Rattle.link.specs.State.{noBody, noFrame}
-use Rattle.link.specs.Step.{Out, byteOut, tickOut, openOut}
-use Rattle.reception.specs.declared.hearing.Hearing.{Hearing}
-use Rattle.reception.specs.declared.hearing.Hearing.the-variants.{Hunting, Head, Body}
-use Rattle.reception.specs.declared.hearing.Single.{Single}
-use Rattle.reception.specs.declared.hearing.Single.the-variants.{Ack, Nak, Can}
-use Rattle.reception.specs.declared.hearing.End.{End}
-use Rattle.reception.specs.declared.hearing.End.the-variants as end
-use Rattle.reception.specs.declared.hearing.Event.{Event}
-use Rattle.reception.specs.declared.hearing.Event.the-variants.{Inside, Kept, Skipped, Alone, Ended, TickHunting, TickInside, Aborted}
-use Rattle.reception.specs.declared.hearing.Heard.{Heard}
+use Rattle.sending.specs.Events.{onSingle, onEnd, release, awaits, onEvent}
+use Rattle.reception.specs.Sums.{sumsEnd, sumsOn}
+use Rattle.link.specs.Link.{noBody, noFrame}
+use Rattle.link.specs.Out.{Out, byteOut, tickOut, openOut}
+use Rattle.hearing.specs.declared.hearing.Hearing.{Hearing}
+use Rattle.hearing.specs.declared.hearing.Hearing.the-variants.{Hunting, Head, Body}
+use Rattle.hearing.specs.declared.hearing.Single.{Single}
+use Rattle.hearing.specs.declared.hearing.Single.the-variants.{Ack, Nak, Can}
+use Rattle.hearing.specs.declared.hearing.End.{End}
+use Rattle.hearing.specs.declared.hearing.End.the-variants as end
+use Rattle.hearing.specs.declared.hearing.Event.{Event}
+use Rattle.hearing.specs.declared.hearing.Event.the-variants.{Inside, Kept, Skipped, Alone, Ended, TickHunting, TickInside, Aborted}
+use Rattle.hearing.specs.declared.hearing.Heard.{Heard}
 use Rattle.job.specs.declared.job.Act.{Act}
 use Rattle.job.specs.declared.job.Asking.{Asking}
 use Rattle.job.specs.declared.job.Asking.the-variants.{Plain, Asks}
 use Rattle.job.specs.declared.job.Job.{Job}
 use Rattle.job.specs.declared.job.Job.the-variants.{Idle, Due, Waiting, BackingOff, Awaiting}
-use Rattle.link.specs.declared.state.Link.{Link}
-use Rattle.history.specs.Calls.{Call}
+use Rattle.link.specs.declared.link.Link.{Link}
+use Rattle.history.specs.Perform.{Call}
 use Rattle.history.specs.History.{after}
 use Rattle.history.specs.Watch.{Says, none, says, both, verdictOf}
 use Rattle.history.specs.Bound.{Fits}
@@ -55,7 +55,7 @@ HeardIn r = HearingIn (r .hearing)
 hunted-in : (b : ℕ) → HeardIn (hunted b)
 hunted-in b = pick-ok HeardIn (eqb b 1) _ _ (omega arith) (pick-ok HeardIn (eqb b 6) _ _ tt (pick-ok HeardIn (eqb b 21) _ _ tt (pick-ok HeardIn (eqb b 24) _ _ tt tt)))
 
-byte-in : (b : ℕ) (h : Hearing) → IsByte b → HearingIn h → HeardIn (heardByte b h)
+byte-in : (b : ℕ) (h : Hearing) → IsByte b → HearingIn h → HeardIn (hearByte b h)
 byte-in b Hunting x k = hunted-in b
 byte-in b (Head c) x k =
     pick-by HeardIn (ltb b 3) _ _ (λ _. tt)
@@ -77,7 +77,7 @@ byte-in b (Body p) x k =
     })
     (λ _. tt)
 
-tick-in : (h : Hearing) → HearingIn h → HeardIn (heardTick h)
+tick-in : (h : Hearing) → HearingIn h → HeardIn (hearTick h)
 tick-in Hunting k = tt
 tick-in (Head c) k = pick-by HeardIn (ltb (c + 1) 1501) _ _ (λ e. let v : c + 1 < 1501 = ltb-true _ _ e in omega arith) (λ _. tt)
 tick-in (Body p) k =
@@ -119,8 +119,8 @@ bad-keeps : (R : Rules) → Keeps R Any (λ (l : Link). l .core .bad ≤ 2)
 unfolding byteOut tickOut openOut
 bad-keeps R =
     record {
-      byte = λ l b x k. sums-few ((heardByte b (l .core .hearing)) .event) (l .core .bad) k;
-      tick = λ l k. sums-few ((heardTick (l .core .hearing)) .event) (l .core .bad) k;
+      byte = λ l b x k. sums-few ((hearByte b (l .core .hearing)) .event) (l .core .bad) k;
+      tick = λ l k. sums-few ((hearTick (l .core .hearing)) .event) (l .core .bad) k;
       begin = λ l a kind command ps n k. k;
       fresh = omega arith;
     }
@@ -135,7 +135,7 @@ sizes-keeps : (R : Rules) → Keeps R Any Sizes
 unfolding byteOut tickOut openOut noBody noFrame
 sizes-keeps R =
     record {
-      byte = λ l b x k. record { size = k .size; body = keep-length ((heardByte b (l .core .hearing)) .event) b (l .body) ∙ k .body; frame = k .frame };
+      byte = λ l b x k. record { size = k .size; body = keep-length ((hearByte b (l .core .hearing)) .event) b (l .body) ∙ k .body; frame = k .frame };
       tick = λ l k. record { size = k .size; body = k .body; frame = k .frame };
       begin = λ l a kind command ps n k.
           let w = frame-bounds kind command ps n in
@@ -261,7 +261,7 @@ module _ (R : Rules) (most : ℕ) (longest : (cause : Cause) (n : ℕ) → R .ba
   abort-short size (BackingOff a n b) k = tick-short size true (BackingOff a n b) k
   abort-short size (Awaiting c n e) k = tick-short size true (Awaiting c n e) tt
 
-  act-short : (size : ℕ) (e : Event) (j : Job) → Short most j → S (act R size e j)
+  act-short : (size : ℕ) (e : Event) (j : Job) → Short most j → S (onEvent R size e j)
   act-short size Inside j k = k
   act-short size (Kept at) j k = k
   act-short size Skipped j k = k
@@ -275,8 +275,8 @@ module _ (R : Rules) (most : ℕ) (longest : (cause : Cause) (n : ℕ) → R .ba
   unfolding byteOut tickOut openOut
   short-keeps =
       record {
-        byte = λ l b x k. act-short (l .core .size) ((heardByte b (l .core .hearing)) .event) (l .core .job) k;
-        tick = λ l k. act-short (l .core .size) ((heardTick (l .core .hearing)) .event) (l .core .job) k;
+        byte = λ l b x k. act-short (l .core .size) ((hearByte b (l .core .hearing)) .event) (l .core .job) k;
+        tick = λ l k. act-short (l .core .size) ((hearTick (l .core .hearing)) .event) (l .core .job) k;
         begin = λ l a kind command ps n k. start-short (isHunting (l .core .hearing)) a 0;
         fresh = tt;
       }

@@ -5,19 +5,19 @@ use mathlib.Core.Path.{_≡_, ap, _∙_, subst}
 use mathlib.Core.List.{List, _∷_}
 use lib.Dec.{eqb}
 use lib.ListN.{length, take}
-use Rattle.frame.specs.Pick.{pick}
+use Rattle.refusals.specs.Pick.{pick}
 use Rattle.frame.specs.Frame.{counted, checksum, frameOf}
 use Rattle.reading.specs.declared.reader.Reading.{Reading}
 use Rattle.reading.specs.declared.reader.Reading.the-variants.{Parts}
 use Rattle.reading.proofs.Theorems.{built-reads}
-use Rattle.job.specs.Rules.{Rules}
+use Rattle.rules.specs.Rules.{Rules}
 use Rattle.sending.specs.Events.{awaits}
-use Rattle.link.specs.Step.{Out, byteOut}
-use Rattle.reception.specs.declared.hearing.Hearing.the-variants.{Hunting}
+use Rattle.link.specs.Out.{Out, byteOut}
+use Rattle.hearing.specs.declared.hearing.Hearing.the-variants.{Hunting}
 use Rattle.job.specs.declared.job.Job.{Job}
 use Rattle.job.specs.declared.job.Job.the-variants.{Idle, Due, Waiting, BackingOff, Awaiting}
-use Rattle.report.specs.declared.report.Reception.the-variants as reception
-use Rattle.link.specs.declared.state.Link.{Link}
+use Rattle.report.specs.declared.Reception.the-variants as reception
+use Rattle.link.specs.declared.link.Link.{Link}
 use Rattle.history.specs.Received.{feed}
 use Rattle.history.specs.Whole.{dueCopy, AsRead}
 use Rattle.history.proofs.Section11.{AtMostCopy, nothing, held}

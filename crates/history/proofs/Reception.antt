@@ -6,13 +6,13 @@ use mathlib.Core.Bool.{Bool, true, false}
 use native.Mathlib.Omega.{arith}
 use lib.Dec.{eqb, ltb}
 use borrow.Author.Tests.{ltb-true}
-use Rattle.frame.specs.Pick.{pick}
-use Rattle.reception.specs.Hearing.{heardByte, heardTick, hunted, clocked, later, isHunting}
-use Rattle.reception.specs.declared.hearing.Hearing.{Hearing}
-use Rattle.reception.specs.declared.hearing.Hearing.the-variants.{Hunting, Head, Body}
-use Rattle.reception.specs.declared.hearing.Event.{Event}
-use Rattle.reception.specs.declared.hearing.Event.the-variants.{Inside, Kept, Skipped, Alone, Ended, TickHunting, TickInside, Aborted}
-use Rattle.reception.specs.declared.hearing.Heard.{Heard}
+use Rattle.refusals.specs.Pick.{pick}
+use Rattle.hearing.specs.Hearing.{hearByte, hearTick, hunted, clocked, later, isHunting}
+use Rattle.hearing.specs.declared.hearing.Hearing.{Hearing}
+use Rattle.hearing.specs.declared.hearing.Hearing.the-variants.{Hunting, Head, Body}
+use Rattle.hearing.specs.declared.hearing.Event.{Event}
+use Rattle.hearing.specs.declared.hearing.Event.the-variants.{Inside, Kept, Skipped, Alone, Ended, TickHunting, TickInside, Aborted}
+use Rattle.hearing.specs.declared.hearing.Heard.{Heard}
 
 -- either way of a test
 pub pick-by : {A : Type 0} (P : A → Type 0) (x : Bool) (a b : A) → (x ≡ true → P a) → (x ≡ false → P b) → P (pick x a b)
@@ -96,7 +96,7 @@ hunted-steps b =
     alone : {s : _} → Steps 0 Hunting (record { hearing = Hunting; event = Alone s })
     alone = record { ok = tt; tells = record { out = λ i. i; small = omega arith }; time = refl }
 
-pub byte-steps : (b : ℕ) (h : Hearing) → InTime h → Steps 0 h (heardByte b h)
+pub byte-steps : (b : ℕ) (h : Hearing) → InTime h → Steps 0 h (hearByte b h)
 byte-steps b Hunting k = hunted-steps b
 byte-steps b (Head c) k =
     pick-ok (Steps 0 (Head c)) (ltb b 3) _ _ (record { ok = tt; tells = tt; time = refl })
@@ -109,7 +109,7 @@ byte-steps b (Body p) k =
 abbrev NoTick : Heard → Type 0
 NoTick r = ticksAt (r .event) ≡ 0
 
-pub no-tick : (b : ℕ) (h : Hearing) → ticksAt ((heardByte b h) .event) ≡ 0
+pub no-tick : (b : ℕ) (h : Hearing) → ticksAt ((hearByte b h) .event) ≡ 0
 no-tick b Hunting =
     pick-ok NoTick (eqb b 1) _ _ refl (pick-ok NoTick (eqb b 6) _ _ refl (pick-ok NoTick (eqb b 21) _ _ refl (pick-ok NoTick (eqb b 24) _ _ refl refl)))
 no-tick b (Head c) = pick-ok NoTick (ltb b 3) _ _ refl refl
@@ -125,7 +125,7 @@ clocked-steps h h′ c w r s k =
     record { ok = (w v) .0; tells = record { within = (w v) .1; small = omega arith; on = λ i. (w v) .1; down = λ i. omega arith }; time = refl })
     (λ e. record { ok = tt; tells = record { small = omega arith; had = λ i. omega arith }; time = refl })
 
-pub tick-steps : (h : Hearing) → InTime h → Steps 1 h (heardTick h)
+pub tick-steps : (h : Hearing) → InTime h → Steps 1 h (hearTick h)
 tick-steps Hunting k = record { ok = tt; tells = record { within = tt; small = omega arith; on = λ i. absurd i; down = λ i. absurd i }; time = refl }
 tick-steps (Head c) k = clocked-steps (Head c) (Head (c + 1)) c (λ v. (omega arith, omega arith)) refl refl k
 tick-steps (Body p) k = clocked-steps (Body p) (Body (later p)) (p .clock) (λ v. (omega arith, omega arith)) refl refl k

@@ -7,11 +7,11 @@ use mathlib.Core.List.{List, [], _∷_, _++_, append-nil, append-assoc}
 use native.Mathlib.Omega.{arith}
 use lib.ListN.{length, take, length-append}
 use lib.Seq.{take-at}
-use Rattle.job.specs.Rules.{Rules}
-use Rattle.reception.specs.Hearing.{heardByte, keep}
-use Rattle.link.specs.Step.{Out, Taken, byteOut, news, quiet, runFrom, runOut}
+use Rattle.rules.specs.Rules.{Rules}
+use Rattle.hearing.specs.Hearing.{hearByte, keep}
+use Rattle.link.specs.Out.{Out, Taken, byteOut, news, quiet, runFrom, runOut}
 use Rattle.job.specs.declared.job.Act.{Act}
-use Rattle.link.specs.declared.state.Link.{Link}
+use Rattle.link.specs.declared.link.Link.{Link}
 use Rattle.history.specs.Received.{feed, fedLine, fedUp}
 use Rattle.history.proofs.Reception.{pick-by, no-tick}
 use Rattle.history.proofs.Links.{calm-byte, calm-line}
@@ -33,7 +33,7 @@ QuietAll R l (b ∷ bs) = QuietByte l (byteOut R l b) × QuietAll R ((byteOut R 
 pub quiet-by-report : (R : Rules) (l : Link) (b : ℕ) → news (byteOut R l b) ≡ false → QuietByte l (byteOut R l b)
 unfolding byteOut
 quiet-by-report R l b e =
-    let r = heardByte b (l .core .hearing) in
+    let r = hearByte b (l .core .hearing) in
     let m = calm-byte R l b r (no-tick b (l .core .hearing)) e in
     record {
       report = e;

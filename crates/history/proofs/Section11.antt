@@ -8,34 +8,33 @@ use native.Mathlib.Omega.{arith}
 use lib.Dec.{ltb, eqb}
 use lib.ListN.{take}
 use borrow.Author.Tests.{ltb-true, ltb-false, lt-ltb, le-ltb, eq-eqb, ne-eqb}
-use Rattle.frame.specs.Pick.{pick}
-use Rattle.job.specs.Rules.{Rules}
-use Rattle.reception.specs.Hearing.{heard, heardByte, heardTick, begun, more, ended}
+use Rattle.refusals.specs.Pick.{pick}
+use Rattle.rules.specs.Rules.{Rules}
+use Rattle.hearing.specs.Hearing.{heard, hearByte, hearTick, begun, more, ended}
 use Rattle.job.specs.Job.{nextCopy, putOut}
 use Rattle.job.specs.Ticks.{onTick, onAbort}
-use Rattle.sending.specs.Events.{release, awaits, onEnd, act}
-use Rattle.report.specs.Report.{replyBytes, saidEnd, saidOn}
-use Rattle.step.specs.Step.{decideOn}
-use Rattle.link.specs.Step.{Out, out, byteBy, byteOut, tickOut}
-use Rattle.reception.specs.declared.hearing.Partial.{Partial}
-use Rattle.reception.specs.declared.hearing.Hearing.{Hearing}
-use Rattle.reception.specs.declared.hearing.Hearing.the-variants.{Hunting, Head, Body}
-use Rattle.reception.specs.declared.hearing.End.{End}
-use Rattle.reception.specs.declared.hearing.End.the-variants as end
-use Rattle.reception.specs.declared.hearing.Event.the-variants.{Inside, Kept, Ended, TickInside, Aborted}
-use Rattle.reception.specs.declared.hearing.Heard.{Heard}
+use Rattle.sending.specs.Events.{release, awaits, onEnd, onEvent, awaitedBy}
+use Rattle.reception.specs.Said.{replyBytes, saidEnd, saidOn}
+use Rattle.link.specs.Out.{Out, out, byteBy, byteOut, tickOut, heardOut}
+use Rattle.hearing.specs.declared.hearing.Partial.{Partial}
+use Rattle.hearing.specs.declared.hearing.Hearing.{Hearing}
+use Rattle.hearing.specs.declared.hearing.Hearing.the-variants.{Hunting, Head, Body}
+use Rattle.hearing.specs.declared.hearing.End.{End}
+use Rattle.hearing.specs.declared.hearing.End.the-variants as end
+use Rattle.hearing.specs.declared.hearing.Event.the-variants.{Inside, Kept, Ended, TickInside, Aborted}
+use Rattle.hearing.specs.declared.hearing.Heard.{Heard}
 use Rattle.job.specs.declared.job.Act.{Act}
 use Rattle.job.specs.declared.job.Asking.{Asking}
 use Rattle.job.specs.declared.job.Job.{Job}
 use Rattle.job.specs.declared.job.Job.the-variants.{Idle, Due, Waiting, BackingOff, Awaiting}
-use Rattle.report.specs.declared.report.Reception.the-variants as reception
-use Rattle.report.specs.declared.report.Reply.{Reply}
-use Rattle.report.specs.declared.report.Reply.the-variants as reply
-use Rattle.job.specs.declared.report.Reset.the-variants as reset
-use Rattle.job.specs.declared.report.Sending.{Sending}
-use Rattle.job.specs.declared.report.Sending.the-variants as sending
-use Rattle.job.specs.declared.report.Session.the-variants as session
-use Rattle.link.specs.declared.state.Link.{Link}
+use Rattle.report.specs.declared.Reception.the-variants as reception
+use Rattle.reception.specs.declared.said.Reply.{Reply}
+use Rattle.reception.specs.declared.said.Reply.the-variants as reply
+use Rattle.report.specs.declared.Reset.the-variants as reset
+use Rattle.report.specs.declared.Sending.{Sending}
+use Rattle.report.specs.declared.Sending.the-variants as sending
+use Rattle.report.specs.declared.Session.the-variants as session
+use Rattle.link.specs.declared.link.Link.{Link}
 use Rattle.history.specs.Ranges.{IsInside}
 use Rattle.history.proofs.Reception.{pick-by, pick-ok}
 
@@ -50,7 +49,7 @@ data InsideByte (h : Hearing) : Heard → Type 0 where
   atBody : {h′ : Hearing} (at : ℕ) → IsInside h′ → clockOf h′ ≡ clockOf h → InsideByte h (heard h′ (Kept at))
   ends : (e : End) → InsideByte h (heard Hunting (Ended e))
 
-inside-byte : (b : ℕ) (h : Hearing) → IsInside h → InsideByte h (heardByte b h)
+inside-byte : (b : ℕ) (h : Hearing) → IsInside h → InsideByte h (hearByte b h)
 inside-byte b Hunting i = absurd i
 inside-byte b (Head c) i = pick-ok (InsideByte (Head c)) (ltb b 3) _ _ (ends end.BadLength) (atLength tt refl)
 inside-byte b (Body p) i =
@@ -84,7 +83,7 @@ NothingOrCopy sending.Abandoned = ⊥
 pub record EndsAs (l : Link) (o : Out) (e : End) : Type 0 where
   pub hunting : o .link .core .hearing ≡ Hunting
   pub sending : NothingOrCopy (o .sending)
-  pub reception : o .reception ≡ (saidEnd e (l .core .job)) .reception
+  pub reception : o .reception ≡ (saidEnd e (awaitedBy (l .core .job))) .reception
   -- a send that waits for its ACK waits on, whatever the byte is: a Checksum of 06, too
   pub waits : (a : Asking) (n t : ℕ) → l .core .job ≡ Waiting a n t → o .link .core .job ≡ Waiting a n t
 
@@ -126,7 +125,7 @@ in-frame R l b r (ends e) = ends e (ends-as R l b e)
 -- "Taking 06 inside a body as the awaited ACK." Inside a frame no byte is taken by the sender: it leaves the job as it was and says nothing, or ends the frame, and then at most a due copy goes out, and a send that waits for its ACK waits on.
 pub inside-frame : (R : Rules) (l : Link) (b : ℕ) → IsInside (l .core .hearing) → InFrame l (byteOut R l b)
 unfolding byteOut
-inside-frame R l b i = in-frame R l b (heardByte b (l .core .hearing)) (inside-byte b (l .core .hearing) i)
+inside-frame R l b i = in-frame R l b (hearByte b (l .core .hearing)) (inside-byte b (l .core .hearing) i)
 
 -- ---- the clock
 -- "Each tick inside a frame adds 1 to its clock. The tick that makes it 1,501 aborts the frame."
@@ -138,7 +137,7 @@ data InsideTick (h : Hearing) : Heard → Type 0 where
   on : {h′ : Hearing} → IsInside h′ → clockOf h′ ≡ clockOf h + 1 → clockOf h < 1500 → InsideTick h (heard h′ TickInside)
   over : 1500 ≤ clockOf h → InsideTick h (heard Hunting Aborted)
 
-inside-tick : (h : Hearing) → IsInside h → InsideTick h (heardTick h)
+inside-tick : (h : Hearing) → IsInside h → InsideTick h (hearTick h)
 inside-tick Hunting i = absurd i
 inside-tick (Head c) i =
     pick-by (InsideTick (Head c)) (ltb (c + 1) 1501) _ _ (λ e. let v : c + 1 < 1501 = ltb-true _ _ e in on tt refl (omega arith))
@@ -147,13 +146,13 @@ inside-tick (Body p) i =
     pick-by (InsideTick (Body p)) (ltb (p .clock + 1) 1501) _ _ (λ e. let v : p .clock + 1 < 1501 = ltb-true _ _ e in on tt refl (omega arith))
     (λ e. let v : 1501 ≤ p .clock + 1 = ltb-false _ _ e in over (omega arith))
 
-ticked : (R : Rules) (l : Link) (r : Heard) → InsideTick (l .core .hearing) r → Ticked l (out (l .body) (l .frame) (decideOn R (l .core) r))
+ticked : (R : Rules) (l : Link) (r : Heard) → InsideTick (l .core .hearing) r → Ticked l (heardOut R (l .core) (l .body) (l .frame) r)
 ticked R l r (on i c k) = Passes i c k
 ticked R l r (over k) = aborts refl refl k
 
 pub inside-ticks : (R : Rules) (l : Link) → IsInside (l .core .hearing) → Ticked l (tickOut R l)
 unfolding tickOut
-inside-ticks R l i = ticked R l (heardTick (l .core .hearing)) (inside-tick (l .core .hearing) i)
+inside-ticks R l i = ticked R l (hearTick (l .core .hearing)) (inside-tick (l .core .hearing) i)
 
 -- ---- "Dropping a copy that came due inside a frame." The call that ends the reception, whichever end it is, puts it out behind the 06 or 15, if there is one.
 pub record GoesOut (a : Asking) (n : ℕ) (answer : List ℕ) (l : Link) (o : Out) : Type 0 where
@@ -169,18 +168,18 @@ answerTo end.Reserved = 6 ∷ []
 answerTo (end.Request size) = 6 ∷ []
 answerTo (end.Response size command) = 6 ∷ []
 
-goes-out : (R : Rules) (l : Link) (body answer : List ℕ) (a : Asking) (n : ℕ) (r : Heard) → replyBytes ((saidOn (r .event) (l .core .job)) .reply) ≡ answer
-    → act R (l .core .size) (r .event) (l .core .job) ≡ putOut a n → GoesOut a n answer l (out body (l .frame) (decideOn R (l .core) r))
+goes-out : (R : Rules) (l : Link) (body answer : List ℕ) (a : Asking) (n : ℕ) (r : Heard) → replyBytes ((saidOn (r .event) (awaitedBy (l .core .job))) .reply) ≡ answer
+    → onEvent R (l .core .size) (r .event) (l .core .job) ≡ putOut a n → GoesOut a n answer l (heardOut R (l .core) body (l .frame) r)
 goes-out R l body answer a n r s x =
     let held = take (l .core .size) (l .frame) in
-    let reply = replyBytes ((saidOn (r .event) (l .core .job)) .reply) in
+    let reply = replyBytes ((saidOn (r .event) (awaitedBy (l .core .job))) .reply) in
     record {
       line = ap (λ (y : Act). reply ++ pick (y .copy) held []) x ∙ ap (λ (y : List ℕ). y ++ held) s;
       sending = ap (λ (y : Act). y .sending) x;
       job = ap (λ (y : Act). y .job) x;
     }
 
-pub end-reply : (e : End) (j : Job) → replyBytes ((saidEnd e j) .reply) ≡ answerTo e
+pub end-reply : (e : End) (j : Job) → replyBytes ((saidEnd e (awaitedBy j)) .reply) ≡ answerTo e
 end-reply end.BadLength j = refl
 end-reply end.BadSum j = refl
 end-reply end.Reserved j = refl
@@ -209,7 +208,7 @@ due-in-frame R l b a n r q (ends e) =
 
 pub due-byte : (R : Rules) (l : Link) (b : ℕ) (a : Asking) (n : ℕ) → l .core .job ≡ Due a n → IsInside (l .core .hearing) → DueByte a n l (byteOut R l b)
 unfolding byteOut
-due-byte R l b a n q i = due-in-frame R l b a n (heardByte b (l .core .hearing)) q (inside-byte b (l .core .hearing) i)
+due-byte R l b a n q i = due-in-frame R l b a n (hearByte b (l .core .hearing)) q (inside-byte b (l .core .hearing) i)
 
 -- and a tick: the copy stays due inside the frame, or goes out by the abort
 pub data DueTick (a : Asking) (n : ℕ) (l : Link) (o : Out) : Type 0 where
@@ -217,13 +216,13 @@ pub data DueTick (a : Asking) (n : ℕ) (l : Link) (o : Out) : Type 0 where
   leaves : o .reception ≡ reception.Abort → GoesOut a n [] l o → DueTick a n l o
 
 due-in-tick : (R : Rules) (l : Link) (a : Asking) (n : ℕ) (r : Heard) → l .core .job ≡ Due a n → InsideTick (l .core .hearing) r
-    → DueTick a n l (out (l .body) (l .frame) (decideOn R (l .core) r))
+    → DueTick a n l (heardOut R (l .core) (l .body) (l .frame) r)
 due-in-tick R l a n r q (on i c k) = stays i (ap (λ (j : Job). (onTick R (l .core .size) false j) .job) q)
 due-in-tick R l a n r q (over k) = leaves refl (goes-out R l (l .body) [] a n (heard Hunting Aborted) refl (ap (onAbort R (l .core .size)) q))
 
 pub due-tick : (R : Rules) (l : Link) (a : Asking) (n : ℕ) → l .core .job ≡ Due a n → IsInside (l .core .hearing) → DueTick a n l (tickOut R l)
 unfolding tickOut
-due-tick R l a n q i = due-in-tick R l a n (heardTick (l .core .hearing)) q (inside-tick (l .core .hearing) i)
+due-tick R l a n q i = due-in-tick R l a n (hearTick (l .core .hearing)) q (inside-tick (l .core .hearing) i)
 
 -- ---- the answers
 -- bytes that are a copy of the held frame, or none
@@ -234,15 +233,15 @@ pub data AtMostCopy (l : Link) : List ℕ → Type 0 where
 pub at-most : (l : Link) (c : Bool) → AtMostCopy l (pick c (take (l .core .size) (l .frame)) [])
 at-most l c = pick-ok (AtMostCopy l) c _ _ held nothing
 
-tick-puts : (R : Rules) (l : Link) (r : Heard) → ((j : Job) → (saidOn (r .event) j) .reply ≡ reply.Silent) → AtMostCopy l ((out (l .body) (l .frame) (decideOn R (l .core) r)) .line)
+tick-puts : (R : Rules) (l : Link) (r : Heard) → ((j : Job) → (saidOn (r .event) (awaitedBy j)) .reply ≡ reply.Silent) → AtMostCopy l ((heardOut R (l .core) (l .body) (l .frame) r) .line)
 tick-puts R l r s =
-    let c = (act R (l .core .size) (r .event) (l .core .job)) .copy in
+    let c = (onEvent R (l .core .size) (r .event) (l .core .job)) .copy in
     subst (λ (y : Reply). AtMostCopy l (replyBytes y ++ pick c (take (l .core .size) (l .frame)) [])) (sym (s (l .core .job))) (at-most l c)
 
 abbrev Silent : Heard → Type 0
-Silent r = (j : Job) → (saidOn (r .event) j) .reply ≡ reply.Silent
+Silent r = (j : Job) → (saidOn (r .event) (awaitedBy j)) .reply ≡ reply.Silent
 
-tick-silent : (h : Hearing) → Silent (heardTick h)
+tick-silent : (h : Hearing) → Silent (hearTick h)
 tick-silent Hunting = λ j. refl
 tick-silent (Head c) = pick-ok Silent (ltb (c + 1) 1501) _ _ (λ j. refl) (λ j. refl)
 tick-silent (Body p) = pick-ok Silent (ltb (p .clock + 1) 1501) _ _ (λ j. refl) (λ j. refl)
@@ -250,7 +249,7 @@ tick-silent (Body p) = pick-ok Silent (ltb (p .clock + 1) 1501) _ _ (λ j. refl)
 -- "Answering an aborted frame with 15, which 6.2.1 forbids." No tick puts out a single byte: nothing, or a copy.
 pub tick-answers : (R : Rules) (l : Link) → AtMostCopy l ((tickOut R l) .line)
 unfolding tickOut
-tick-answers R l = tick-puts R l (heardTick (l .core .hearing)) (tick-silent (l .core .hearing))
+tick-answers R l = tick-puts R l (hearTick (l .core .hearing)) (tick-silent (l .core .hearing))
 
 -- the byte that ends a frame is answered as answerTo says, and behind that stands a copy or nothing
 pub record Answers (l : Link) (o : Out) (e : End) : Type 0 where
@@ -267,9 +266,9 @@ right-is : (p : Partial) → answerTo (ended p) ≡ 6 ∷ []
 right-is p =
     pick-ok (λ (e : End). answerTo e ≡ 6 ∷ []) (eqb (p .kind) 0) _ _ refl (pick-ok (λ (e : End). answerTo e ≡ 6 ∷ []) (eqb (p .kind) 1) _ _ refl refl)
 
-pub byte-at : (R : Rules) (l : Link) (b : ℕ) (h : Hearing) → l .core .hearing ≡ h → byteOut R l b ≡ byteBy R l b (heardByte b h)
+pub byte-at : (R : Rules) (l : Link) (b : ℕ) (h : Hearing) → l .core .hearing ≡ h → byteOut R l b ≡ byteBy R l b (hearByte b h)
 unfolding byteOut
-byte-at R l b h q = ap (λ (x : Hearing). byteBy R l b (heardByte b x)) q
+byte-at R l b h q = ap (λ (x : Hearing). byteBy R l b (hearByte b x)) q
 
 -- the Checksum's byte
 pub checked : (R : Rules) (l : Link) (b : ℕ) (p : Partial) → l .core .hearing ≡ Body p → p .size ≤ p .at

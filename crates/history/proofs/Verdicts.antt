@@ -6,11 +6,11 @@ use mathlib.Core.List.{List}
 use native.Mathlib.Omega.{arith}
 use lib.ListN.{length}
 use Rattle.frame.specs.Frame.{frameOf}
-use Rattle.job.specs.Rules.{Rules, Cause, told, time, base}
+use Rattle.rules.specs.Rules.{Rules, Cause, told, time, base}
 use Rattle.job.specs.declared.job.Asking.{Asking}
 use Rattle.job.specs.declared.job.Asking.the-variants.{Plain, Asks}
-use Rattle.link.specs.Step.{Out}
-use Rattle.history.specs.Calls.{tick, send, session, restart, Call, took, perform}
+use Rattle.link.specs.Out.{Out}
+use Rattle.history.specs.Perform.{tick, send, session, restart, Call, took, perform}
 use Rattle.history.specs.History.{after, ticksIn, restartsIn}
 use Rattle.history.specs.Cut.{frames}
 use Rattle.history.specs.Watch.{failed, notSent, Watch, going, gone, ended, watched, verdictsFrom, linesFrom, verdictsBy}

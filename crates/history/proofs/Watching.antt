@@ -7,19 +7,19 @@ use mathlib.Core.List.{List, [], _∷_}
 use native.Mathlib.Omega.{arith}
 use native.Mathlib.Nat.{zero-add}
 use lib.ListN.{length, replicate, length-replicate}
-use Rattle.job.specs.Rules.{Rules}
+use Rattle.rules.specs.Rules.{Rules}
 use Rattle.job.specs.Job.{isOpen}
 use Rattle.sending.specs.Events.{copiesOf}
-use Rattle.link.specs.Step.{Out}
+use Rattle.link.specs.Out.{Out}
 use Rattle.step.specs.Checks.{roomChecks}
 use Rattle.step.specs.declared.checks.Checked.{Checked}
 use Rattle.step.specs.declared.checks.Checked.the-variants.{Passes, Refuses}
-use Rattle.reception.specs.declared.hearing.Hearing.{Hearing}
+use Rattle.hearing.specs.declared.hearing.Hearing.{Hearing}
 use Rattle.job.specs.declared.job.Asking.{Asking}
 use Rattle.job.specs.declared.job.Job.{Job}
-use Rattle.link.specs.declared.state.Link.{Link}
-use Rattle.history.specs.Calls.{What, byte, bytes, tick, send, session, restart, Call, checksOf, outOf, Done, refused, took, doneBy, perform}
-use Rattle.history.specs.History.{next, ticksOf, restartsOf, accepted, ticksIn, restartsIn}
+use Rattle.link.specs.declared.link.Link.{Link}
+use Rattle.history.specs.Perform.{What, byte, bytes, tick, send, session, restart, Call, checksOf, outOf, Done, refused, took, doneBy, perform}
+use Rattle.history.specs.History.{next, oneTick, oneRestart, accepted, ticksIn, restartsIn}
 use Rattle.history.specs.Cut.{frames}
 use Rattle.history.specs.Bound.{Fits}
 use Rattle.history.specs.Watch.{copiesIn, Says, none, says, both, verdictOf, Watch, going, gone, ended, add, onward, watchTaken, watchDone, watch, watched}
@@ -128,7 +128,7 @@ onward-counts none t n l w e = add-counts t n l w e
 onward-counts (says v) t n l w e = tt
 onward-counts (both v u) t n l w e = tt
 
-taken-counts : (a : Asking) (w : What) (o : Out) (n : ℕ) (k : Watch) → Counts n k → Counts (ticksOf w + n) (watchTaken a w o k)
+taken-counts : (a : Asking) (w : What) (o : Out) (n : ℕ) (k : Watch) → Counts n k → Counts (oneTick w + n) (watchTaken a w o k)
 taken-counts a (byte b) o n k e = onward-counts (verdictOf a o) 0 n (o .line) k e
 taken-counts a (bytes bs) o n k e = onward-counts (verdictOf a o) 0 n (o .line) k e
 taken-counts a tick o n k e = onward-counts (verdictOf a o) 1 n (o .line) k e
@@ -137,7 +137,7 @@ taken-counts a (session command ps) o n k e = onward-counts (verdictOf a o) 0 n 
 taken-counts a restart o n k e = tt
 
 done-counts : (a : Asking) (w : What) (l : Link) (d : Done) (k : Link → Watch) (n : Link → ℕ) → ((z : Link) → Counts (n z) (k z))
-    → Counts (accepted (ticksOf w) d + n (next l d)) (watchDone a w l d k)
+    → Counts (accepted (oneTick w) d + n (next l d)) (watchDone a w l d k)
 done-counts a w l (refused r) k n i = subst (λ (x : ℕ). Counts x (k l)) (sym (zero-add (n l))) (i l)
 done-counts a w l (took o) k n i = taken-counts a w o (n (o .link)) (k (o .link)) (i (o .link))
 
@@ -161,7 +161,7 @@ onward-there none t l (ended v u m) e = tt
 onward-there (says v) t l w e = tt
 onward-there (both v u) t l w e = tt
 
-taken-there : (a : Asking) (w : What) (o : Out) (k : Watch) → restartsOf w ≡ 0 → NotGone k → NotGone (watchTaken a w o k)
+taken-there : (a : Asking) (w : What) (o : Out) (k : Watch) → oneRestart w ≡ 0 → NotGone k → NotGone (watchTaken a w o k)
 taken-there a (byte b) o k e i = onward-there (verdictOf a o) 0 (o .line) k i
 taken-there a (bytes bs) o k e i = onward-there (verdictOf a o) 0 (o .line) k i
 taken-there a tick o k e i = onward-there (verdictOf a o) 1 (o .line) k i
@@ -170,7 +170,7 @@ taken-there a (session command ps) o k e i = onward-there (verdictOf a o) 0 (o .
 taken-there a restart o k e i = absurd (omega arith)
 
 done-there : (a : Asking) (w : What) (l : Link) (d : Done) (k : Link → Watch) (n : Link → ℕ) → ((z : Link) → n z ≡ 0 → NotGone (k z))
-    → accepted (restartsOf w) d + n (next l d) ≡ 0 → NotGone (watchDone a w l d k)
+    → accepted (oneRestart w) d + n (next l d) ≡ 0 → NotGone (watchDone a w l d k)
 done-there a w l (refused r) k n i e = i l (omega arith)
 done-there a w l (took o) k n i e = taken-there a w o (k (o .link)) (omega arith) (i (o .link) (omega arith))
 

@@ -1,7 +1,7 @@
 -- The bound of demand 3, for any rules of sending: how long a send or session can last.
 -- Assumes nothing.
 use Prim.Native.Nat.{ℕ, zero, suc, _+_, _≤_, _<_}
-use Rattle.job.specs.Rules.{Rules, told, time}
+use Rattle.rules.specs.Rules.{Rules, told, time}
 use Rattle.job.specs.declared.job.Asking.{Asking}
 use Rattle.job.specs.declared.job.Asking.the-variants.{Plain, Asks}
 

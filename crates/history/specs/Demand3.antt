@@ -6,11 +6,11 @@ use mathlib.Core.Path.{_≡_}
 use mathlib.Core.List.{List}
 use lib.ListN.{length, replicate}
 use Rattle.frame.specs.Frame.{frameOf}
-use Rattle.job.specs.Rules.{Rules}
-use Rattle.link.specs.Step.{Out}
+use Rattle.rules.specs.Rules.{Rules}
+use Rattle.link.specs.Out.{Out}
 use Rattle.job.specs.declared.job.Asking.{Asking}
 use Rattle.job.specs.declared.job.Asking.the-variants.{Plain, Asks}
-use Rattle.history.specs.Calls.{send, session, Call, took, perform}
+use Rattle.history.specs.Perform.{send, session, Call, took, perform}
 use Rattle.history.specs.History.{after, ticksIn, restartsIn}
 use Rattle.history.specs.Cut.{frames, singles, IsAnswer}
 use Rattle.history.specs.Ranges.{All}

@@ -5,9 +5,9 @@ use mathlib.Core.Path.{_≡_}
 use mathlib.Core.List.{List, [], _∷_, _++_}
 use lib.ListN.{length}
 use Rattle.frame.specs.Frame.{frameOf}
-use Rattle.reading.specs.Reader.{readingOf}
+use Rattle.reading.specs.Reader.{read}
 use Rattle.reading.specs.declared.reader.Reading.the-variants.{Parts}
-use Rattle.link.specs.Step.{Out}
+use Rattle.link.specs.Out.{Out}
 
 -- with the bytes received so far, the last one included
 pub record FrameUp (xs : List ℕ) (o : Out) : Type 0 where
@@ -18,7 +18,7 @@ pub record FrameUp (xs : List ℕ) (o : Out) : Type 0 where
   -- the bytes received end with this frame
   pub came : xs ≡ before ++ frameOf kind command ps
   -- which the frame reader accepts
-  pub reads : readingOf (frameOf kind command ps) ≡ Parts kind command (length ps)
+  pub reads : read (frameOf kind command ps) ≡ Parts kind command (length ps)
   -- and what is handed up is its Type, Command and parameters
   pub up : o .up ≡ kind ∷ command ∷ ps
 

@@ -2,10 +2,10 @@
 -- Assumes nothing.
 use Prim.Native.Nat.{ℕ, _+_}
 use mathlib.Core.List.{List, [], _∷_}
-use Rattle.job.specs.Rules.{Rules}
-use Rattle.link.specs.State.{freshLink}
-use Rattle.link.specs.declared.state.Link.{Link}
-use Rattle.history.specs.Calls.{What, byte, bytes, tick, send, session, restart, Call, Done, refused, took, perform}
+use Rattle.rules.specs.Rules.{Rules}
+use Rattle.link.specs.Link.{freshLink}
+use Rattle.link.specs.declared.link.Link.{Link}
+use Rattle.history.specs.Perform.{What, byte, bytes, tick, send, session, restart, Call, Done, refused, took, perform}
 
 -- Refused calls are in it and change nothing.
 abbrev pub next : Link → Done → Link
@@ -21,22 +21,22 @@ abbrev pub after : Rules → List Call → Link
 after R h = run R freshLink h
 
 -- one for a tick
-abbrev pub ticksOf : What → ℕ
-ticksOf (byte b) = 0
-ticksOf (bytes bs) = 0
-ticksOf tick = 1
-ticksOf (send kind command ps) = 0
-ticksOf (session command ps) = 0
-ticksOf restart = 0
+abbrev pub oneTick : What → ℕ
+oneTick (byte b) = 0
+oneTick (bytes bs) = 0
+oneTick tick = 1
+oneTick (send kind command ps) = 0
+oneTick (session command ps) = 0
+oneTick restart = 0
 
 -- one for a restart
-abbrev pub restartsOf : What → ℕ
-restartsOf (byte b) = 0
-restartsOf (bytes bs) = 0
-restartsOf tick = 0
-restartsOf (send kind command ps) = 0
-restartsOf (session command ps) = 0
-restartsOf restart = 1
+abbrev pub oneRestart : What → ℕ
+oneRestart (byte b) = 0
+oneRestart (bytes bs) = 0
+oneRestart tick = 0
+oneRestart (send kind command ps) = 0
+oneRestart (session command ps) = 0
+oneRestart restart = 1
 
 -- Accepted are those not refused.
 abbrev pub accepted : ℕ → Done → ℕ
@@ -46,8 +46,8 @@ accepted n (took o) = n
 -- the accepted ticks among these calls, and the accepted restarts
 abbrev pub ticksIn : Rules → Link → List Call → ℕ
 ticksIn R l [] = 0
-ticksIn R l (c ∷ h) = accepted (ticksOf (c .what)) (perform R l c) + ticksIn R (next l (perform R l c)) h
+ticksIn R l (c ∷ h) = accepted (oneTick (c .what)) (perform R l c) + ticksIn R (next l (perform R l c)) h
 
 abbrev pub restartsIn : Rules → Link → List Call → ℕ
 restartsIn R l [] = 0
-restartsIn R l (c ∷ h) = accepted (restartsOf (c .what)) (perform R l c) + restartsIn R (next l (perform R l c)) h
+restartsIn R l (c ∷ h) = accepted (oneRestart (c .what)) (perform R l c) + restartsIn R (next l (perform R l c)) h

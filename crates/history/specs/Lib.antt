@@ -1,4 +1,4 @@
-pub mod Calls
+pub mod Perform
 pub mod History
 pub mod Played
 pub mod Cut

@@ -6,25 +6,25 @@ use mathlib.Core.List.{List, [], _∷_}
 use lib.ListN.{length}
 use Rattle.frame.specs.Bytes.{over}
 use Rattle.frame.specs.Frame.{frameOf}
-use Rattle.job.specs.Rules.{Rules}
+use Rattle.rules.specs.Rules.{Rules}
 use Rattle.job.specs.declared.job.Asking.the-variants.{Plain, Asks}
-use Rattle.step.specs.Checks.{sendChecks, sessionChecks}
+use Rattle.step.specs.Checks.{sendOwn, sessionOwn}
 use Rattle.step.specs.declared.checks.Checked.the-variants.{Passes}
-use Rattle.link.specs.Step.{reportOf, runOut, byteOut, tickOut, openOut, restartOut}
-use Rattle.link.specs.Calls.{Call as CallPromise, Run as RunPromise}
+use Rattle.link.specs.Out.{outReport, runOut, byteOut, tickOut, openOut, restartOut}
+use Rattle.link.specs.Calls.{CallPromise, RunPromise}
 use Rattle.link.specs.declared.calls.Answer.{Answer}
 use Rattle.link.specs.declared.calls.Answer.the-variants as answer
 use Rattle.link.specs.declared.calls.Answered.{Answered}
 use Rattle.link.specs.declared.calls.Ran.{Ran}
 use Rattle.link.specs.declared.calls.RunAnswer.{RunAnswer}
 use Rattle.link.specs.declared.calls.RunAnswer.the-variants as run
-use Rattle.link.specs.declared.state.Link.{Link}
-use Rattle.history.specs.Calls.{What, byte, bytes, tick, send, session, restart, Call, Done, refused, took, perform}
+use Rattle.link.specs.declared.link.Link.{Link}
+use Rattle.history.specs.Perform.{What, byte, bytes, tick, send, session, restart, Call, Done, refused, took, perform}
 use Rattle.history.specs.History.{next}
 
 -- what a call answered; a run of bytes has its own answer
 pub data Told : Type 0 where
-  answered : Answer → Told
+  onAnswer : Answer → Told
   ran : RunAnswer → Told
 
 -- a call: the bytes lent to it, what it answered, and what it left of them
@@ -48,10 +48,10 @@ pub data Promised (R : Rules) (l : Link) : Played → Link → Type 0 where
   tickCall : (line up : List ℕ) (r : Answered) (line′ up′ : List ℕ) → CallPromise Passes (tickOut R l) l line up r line′ up′
       → Promised R l (played tick line up (answered (r .answer)) line′ up′) (r .link)
   sendCall : (kind command : ℕ) (ps line up : List ℕ) (r : Answered) (line′ up′ : List ℕ)
-      → CallPromise (sendChecks (l .core .job) kind (length ps)) (openOut l Plain (frameOf kind command ps)) l line up r line′ up′
+      → CallPromise (sendOwn (l .core .job) kind (length ps)) (openOut l Plain (frameOf kind command ps)) l line up r line′ up′
       → Promised R l (played (send kind command ps) line up (answered (r .answer)) line′ up′) (r .link)
   sessionCall : (command : ℕ) (ps line up : List ℕ) (r : Answered) (line′ up′ : List ℕ)
-      → CallPromise (sessionChecks (l .core .job) (length ps)) (openOut l (Asks command) (frameOf 0 command ps)) l line up r line′ up′
+      → CallPromise (sessionOwn (l .core .job) (length ps)) (openOut l (Asks command) (frameOf 0 command ps)) l line up r line′ up′
       → Promised R l (played (session command ps) line up (answered (r .answer)) line′ up′) (r .link)
   restartCall : (line up : List ℕ) (r : Answered) (line′ up′ : List ℕ) → CallPromise Passes (restartOut l) l line up r line′ up′
       → Promised R l (played restart line up (answered (r .answer)) line′ up′) (r .link)
@@ -72,11 +72,11 @@ callsOf (p ∷ ps) = callOf p ∷ callsOf ps
 -- what is done, as an answer and as bytes written
 abbrev pub answerOf : Done → Answer
 answerOf (refused k) = answer.Refused k
-answerOf (took o) = answer.Done (reportOf o)
+answerOf (took o) = answer.Done (outReport o)
 
 abbrev pub runAnswerOf : ℕ → Done → RunAnswer
 runAnswerOf n (refused k) = run.Refused k
-runAnswerOf n (took o) = run.Done (reportOf o) n
+runAnswerOf n (took o) = run.Done (outReport o) n
 
 abbrev pub toldOf : Rules → Link → What → Done → Told
 toldOf R l (byte b) d = answered (answerOf d)

@@ -4,14 +4,14 @@ use Prim.Native.Nat.{ℕ, _≤_, _<_}
 use mathlib.Core.Path.{_≡_}
 use mathlib.Core.List.{List, [], _∷_}
 use lib.ListN.{length}
-use Rattle.job.specs.Rules.{Rules}
-use Rattle.reception.specs.declared.hearing.Partial.{Partial}
-use Rattle.reception.specs.declared.hearing.Hearing.{Hearing}
-use Rattle.reception.specs.declared.hearing.Hearing.the-variants.{Hunting, Head, Body}
+use Rattle.rules.specs.Rules.{Rules}
+use Rattle.hearing.specs.declared.hearing.Partial.{Partial}
+use Rattle.hearing.specs.declared.hearing.Hearing.{Hearing}
+use Rattle.hearing.specs.declared.hearing.Hearing.the-variants.{Hunting, Head, Body}
 use Rattle.job.specs.declared.job.Job.{Job}
 use Rattle.job.specs.declared.job.Job.the-variants.{Idle, Due, Waiting, BackingOff, Awaiting}
-use Rattle.link.specs.declared.state.Link.{Link}
-use Rattle.history.specs.Calls.{What, byte, bytes, tick, send, session, restart, Call}
+use Rattle.link.specs.declared.link.Link.{Link}
+use Rattle.history.specs.Perform.{What, byte, bytes, tick, send, session, restart, Call}
 
 -- ---- histories in which every received byte is of a kind B
 abbrev pub All : (ℕ → Type 0) → List ℕ → Type 0

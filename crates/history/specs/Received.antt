@@ -3,10 +3,10 @@
 use Prim.Native.Nat.{ℕ}
 use mathlib.Core.List.{List, [], _∷_, _++_}
 use lib.ListN.{take}
-use Rattle.job.specs.Rules.{Rules}
-use Rattle.link.specs.Step.{byteOut, runOut}
-use Rattle.link.specs.declared.state.Link.{Link}
-use Rattle.history.specs.Calls.{What, byte, bytes, tick, send, session, restart, Call, Done, refused, took, perform}
+use Rattle.rules.specs.Rules.{Rules}
+use Rattle.link.specs.Out.{byteOut, runOut}
+use Rattle.link.specs.declared.link.Link.{Link}
+use Rattle.history.specs.Perform.{What, byte, bytes, tick, send, session, restart, Call, Done, refused, took, perform}
 use Rattle.history.specs.History.{next}
 
 -- the link after these bytes, given one by one

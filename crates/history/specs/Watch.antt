@@ -3,17 +3,17 @@
 use Prim.Native.Nat.{ℕ, _+_}
 use mathlib.Core.Bool.{Bool, true, false}
 use mathlib.Core.List.{List, [], _∷_, _++_}
-use Rattle.frame.specs.Pick.{pick}
-use Rattle.job.specs.Rules.{Rules}
-use Rattle.link.specs.Step.{Out}
+use Rattle.refusals.specs.Pick.{pick}
+use Rattle.rules.specs.Rules.{Rules}
+use Rattle.link.specs.Out.{Out}
 use Rattle.job.specs.declared.job.Asking.{Asking}
 use Rattle.job.specs.declared.job.Asking.the-variants.{Plain, Asks}
-use Rattle.job.specs.declared.report.Sending.{Sending}
-use Rattle.job.specs.declared.report.Sending.the-variants as sending
-use Rattle.job.specs.declared.report.Session.{Session}
-use Rattle.job.specs.declared.report.Session.the-variants as session
-use Rattle.link.specs.declared.state.Link.{Link}
-use Rattle.history.specs.Calls.{What, byte, bytes, tick, send, session as sessionCall, restart, Call, Done, refused, took, perform}
+use Rattle.report.specs.declared.Sending.{Sending}
+use Rattle.report.specs.declared.Sending.the-variants as sending
+use Rattle.report.specs.declared.Session.{Session}
+use Rattle.report.specs.declared.Session.the-variants as session
+use Rattle.link.specs.declared.link.Link.{Link}
+use Rattle.history.specs.Perform.{What, byte, bytes, tick, send, session as sessionCall, restart, Call, Done, refused, took, perform}
 
 -- the verdicts there are, each with the copies
 pub data Verdict : Type 0 where
@@ -177,14 +177,14 @@ abbrev pub outsFrom : Rules → Out → List Call → List Out
 outsFrom R o h = o ∷ outs R (o .link) h
 
 -- how many verdicts are said
-abbrev pub count : Says → ℕ
-count none = 0
-count (says v) = 1
-count (both v w) = 2
+abbrev pub verdictCount : Says → ℕ
+verdictCount none = 0
+verdictCount (says v) = 1
+verdictCount (both v w) = 2
 
 abbrev pub verdictsOf : Asking → List Out → ℕ
 verdictsOf a [] = 0
-verdictsOf a (o ∷ os) = count (verdictOf a o) + verdictsOf a os
+verdictsOf a (o ∷ os) = verdictCount (verdictOf a o) + verdictsOf a os
 
 abbrev pub verdictsFrom : Rules → Asking → Out → List Call → ℕ
 verdictsFrom R a o h = verdictsOf a (outsFrom R o h)

@@ -5,21 +5,21 @@ use mathlib.Core.Path.{_≡_}
 use mathlib.Core.List.{List, [], _∷_, _++_}
 use lib.Dec.{eqb}
 use lib.ListN.{length, take}
-use Rattle.frame.specs.Pick.{pick}
-use Rattle.frame.specs.declared.refusal.Refusal.the-variants as refusal
+use Rattle.refusals.specs.Pick.{pick}
+use Rattle.refusals.specs.declared.Refusal.the-variants as refusal
 use Rattle.reading.specs.Reader.{parametersOf}
 use Rattle.reading.specs.declared.reader.Reading.{Reading}
 use Rattle.reading.specs.declared.reader.Reading.the-variants.{Refused, Parts}
-use Rattle.job.specs.Rules.{Rules}
+use Rattle.rules.specs.Rules.{Rules}
 use Rattle.sending.specs.Events.{awaits}
-use Rattle.link.specs.Step.{Out}
-use Rattle.reception.specs.declared.hearing.Hearing.the-variants.{Hunting}
+use Rattle.link.specs.Out.{Out}
+use Rattle.hearing.specs.declared.hearing.Hearing.the-variants.{Hunting}
 use Rattle.job.specs.declared.job.Job.{Job}
 use Rattle.job.specs.declared.job.Job.the-variants.{Idle, Due, Waiting, BackingOff, Awaiting}
-use Rattle.report.specs.declared.report.Reception.{Reception}
-use Rattle.report.specs.declared.report.Reception.the-variants as reception
-use Rattle.link.specs.declared.state.Link.{Link}
-use Rattle.history.specs.Calls.{Call, perform}
+use Rattle.report.specs.declared.Reception.{Reception}
+use Rattle.report.specs.declared.Reception.the-variants as reception
+use Rattle.link.specs.declared.link.Link.{Link}
+use Rattle.history.specs.Perform.{Call, perform}
 use Rattle.history.specs.History.{next, run, ticksIn, restartsIn}
 use Rattle.history.specs.Received.{takenBy, ifTaken, received}
 

@@ -8,7 +8,7 @@ use mathlib.Core.List.{[], _∷_}
 use types.Run.{OneOf, miss}
 use denote.Enum.Declared.{tagOf}
 use Rattle.job.proofs.job.Job.{the-type}
-use Rattle.job.specs.Rules.{base}
+use Rattle.rules.specs.Rules.{base}
 use Rattle.job.specs.Job.{still, isOpen}
 use Rattle.job.specs.Ticks.{onTick, onAbort}
 use Rattle.job.specs.declared.job.Job.{Job}

@@ -8,12 +8,12 @@
 use mathlib.Core.Path.{_≡_}
 use mathlib.Core.Bool.{Bool, true}
 use Prim.Native.Nat.{ℕ}
-use Rattle.frame.proofs.Theorems.{fixed}
-use Rattle.job.specs.declared.report.Sending.{Sending}
+use Rattle.refusals.proofs.Theorems.{fixed}
+use Rattle.report.specs.declared.Sending.{Sending}
 use Rattle.job.specs.declared.job.Asking.{Asking}
 use Rattle.job.specs.declared.job.Job.{Job}
 use Rattle.job.specs.declared.job.Act.{Act}
-use Rattle.job.specs.Rules.{Cause, told, base}
+use Rattle.rules.specs.Rules.{Cause, told, base}
 use Rattle.job.specs.Job.{goesOn, start, lose, isOpen}
 use Rattle.job.specs.Ticks.{onTick, onAbort}
 

@@ -3,13 +3,14 @@
 use Prim.Native.Nat.{ℕ, _+_}
 use mathlib.Core.Bool.{Bool, true, false}
 use lib.Dec.{ltb, eqb}
-use Rattle.frame.specs.Pick.{pick}
-use Rattle.job.specs.Rules.{Rules, Cause}
-use Rattle.job.specs.declared.report.Sending.{Sending}
-use Rattle.job.specs.declared.report.Sending.the-variants as sending
-use Rattle.job.specs.declared.report.Session.{Session}
-use Rattle.job.specs.declared.report.Session.the-variants as session
-use Rattle.job.specs.declared.report.Reset.the-variants as reset
+use Rattle.refusals.specs.Pick.{pick}
+use Rattle.rules.specs.Rules.{Rules, Cause}
+use Rattle.units.specs.declared.Millis.{Millis}
+use Rattle.report.specs.declared.Sending.{Sending}
+use Rattle.report.specs.declared.Sending.the-variants as sending
+use Rattle.report.specs.declared.Session.{Session}
+use Rattle.report.specs.declared.Session.the-variants as session
+use Rattle.report.specs.declared.Reset.the-variants as reset
 use Rattle.job.specs.declared.job.Asking.{Asking}
 use Rattle.job.specs.declared.job.Asking.the-variants.{Plain, Asks}
 use Rattle.job.specs.declared.job.Job.{Job}
@@ -46,10 +47,13 @@ notSent (Asks c) n = session.NotSent n
 abbrev pub fail : Asking → ℕ → Act
 fail a n = record { job = Idle; sending = sending.Failed n; session = notSent a n; reset = reset.Delivery; copy = false }
 
+-- so many ticks go by before the next copy
+abbrev pub backingOff : Millis → Asking → ℕ → Act
+backingOff time a n = goesOn (BackingOff a n (time .0)) (sending.BackingOff time)
+
 -- Back off so many ticks; 0 is none, which document 01's rules never give.
 abbrev pub backOff : ℕ → Bool → Asking → ℕ → Act
-backOff ticks hunting a n =
-    pick (eqb ticks 0) (start hunting a n) (goesOn (BackingOff a n ticks) (sending.BackingOff (record { 0 = ticks })))
+backOff ticks hunting a n = pick (eqb ticks 0) (start hunting a n) (backingOff (record { 0 = ticks }) a n)
 
 -- After copy 1, 2, 3 back off; after copy 4 fail.
 abbrev pub lose : Rules → Cause → Bool → Asking → ℕ → Act

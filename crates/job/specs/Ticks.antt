@@ -3,12 +3,12 @@
 use Prim.Native.Nat.{ℕ, _+_, _-_}
 use mathlib.Core.Bool.{Bool, true, false}
 use lib.Dec.{ltb}
-use Rattle.frame.specs.Pick.{pick}
-use Rattle.job.specs.Rules.{Rules, time}
+use Rattle.refusals.specs.Pick.{pick}
+use Rattle.rules.specs.Rules.{Rules, time}
 use Rattle.job.specs.Job.{still, putOut, start, lose}
-use Rattle.job.specs.declared.report.Sending.the-variants as sending
-use Rattle.job.specs.declared.report.Session.the-variants as session
-use Rattle.job.specs.declared.report.Reset.the-variants as reset
+use Rattle.report.specs.declared.Sending.the-variants as sending
+use Rattle.report.specs.declared.Session.the-variants as session
+use Rattle.report.specs.declared.Reset.the-variants as reset
 use Rattle.job.specs.declared.job.Asking.{Asking}
 use Rattle.job.specs.declared.job.Job.{Job}
 use Rattle.job.specs.declared.job.Job.the-variants.{Idle, Due, Waiting, BackingOff, Awaiting}

@@ -1,14 +1,12 @@
 // The open send or session (sections 5 and 6): its state, its waits and back-offs, and how a copy goes out or is given up.
-use crate::report::Reset;
-use crate::report::Sending;
-use crate::report::Session;
+use report::Reset;
+use report::Sending;
+use report::Session;
 use units::Millis;
 ghost use mathlib.Core.Path.{_≡_};
 ghost use mathlib.Core.Bool.{Bool};
 ghost use Prim.Native.Nat.{_<_};
-ghost use Rattle.job.specs.declared.job.Job.the-variants.{BackingOff};
-ghost use Rattle.job.specs.declared.report.Sending.the-variants as sending;
-ghost use Rattle.job.specs.Rules.{base, Cause};
+ghost use Rattle.rules.specs.Rules.{base, Cause};
 ghost use Rattle.job.specs.Job as spec;
 
 // Whether the open send is a session, and then which command it asks for.
@@ -142,9 +140,10 @@ fn fail(asking: Asking, copies: u8) -> Act
     }
 }
 
-fn back_off(time: Millis, asking: Asking, copies: u8) -> Act
+// So many ticks go by before the next copy.
+fn backing_off(time: Millis, asking: Asking, copies: u8) -> Act
     requires { ⌜ time .0 < 65536 ⌝ }
-    ensures { λ r. ⌜ r ≡ spec.goesOn (BackingOff asking copies (time .0)) (sending.BackingOff time) ⌝ }
+    ensures { λ r. ⌜ r ≡ spec.backingOff time asking copies ⌝ }
 {
     let left = time.0 as u16;
     goes_on(
@@ -165,12 +164,12 @@ pub fn lose(asking: Asking, copies: u8) -> Act
         return fail(asking, copies);
     }
     if copies == 1 {
-        return back_off(Job::BACK_OFF_1, asking, copies);
+        return backing_off(Job::BACK_OFF_1, asking, copies);
     }
     if copies == 2 {
-        return back_off(Job::BACK_OFF_2, asking, copies);
+        return backing_off(Job::BACK_OFF_2, asking, copies);
     }
-    back_off(Job::BACK_OFF_3, asking, copies)
+    backing_off(Job::BACK_OFF_3, asking, copies)
 }
 
 // A send or session is open.

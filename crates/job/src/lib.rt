@@ -1,6 +1,5 @@
 // The job (document 01, sections 5 and 6): the open send or session, its copies and its time.
 mod job;
-mod report;
 mod ticks;
 
 pub use job::Act;
@@ -10,8 +9,5 @@ pub use job::goes_on;
 pub use job::is_open;
 pub use job::lose;
 pub use job::start;
-pub use report::Reset;
-pub use report::Sending;
-pub use report::Session;
 pub use ticks::on_abort;
 pub use ticks::on_tick;

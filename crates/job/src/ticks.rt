@@ -6,13 +6,13 @@ use crate::job::goes_on;
 use crate::job::lose;
 use crate::job::put_out;
 use crate::job::start;
-use crate::report::Reset;
-use crate::report::Sending;
-use crate::report::Session;
+use report::Reset;
+use report::Sending;
+use report::Session;
 use units::Millis;
 ghost use mathlib.Core.Path.{_≡_};
 ghost use Prim.Native.Nat.{_+_};
-ghost use Rattle.job.specs.Rules.{base};
+ghost use Rattle.rules.specs.Rules.{base};
 ghost use Rattle.job.specs.Ticks as spec;
 
 // How long a copy of so many bytes waits for its ACK: each as long.

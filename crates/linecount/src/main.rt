@@ -26,25 +26,16 @@ enum Seen {
     Failed,
 }
 
-fn least(a: usize, b: usize) -> usize
-    ensures { λ r. ⌜ (r ≤ a) × (r ≤ b) ⌝ }
-{
-    if a < b {
-        return a;
-    }
-    b
-}
-
 // One read, of at most so many bytes, to the front of buf.
 fn read_some(buf: &mut [u8], most: usize) -> Got
     ensures { λ r. ⌜ Within most (length (now (buf .exit))) r ⌝ }
 {
-    let room = least(most, buf.len());
+    let room = frame::least(most, buf.len());
     let got = libc::read(STDIN_FILENO, &mut buf[..room]);
     if got < 0 {
         return Got::Failed;
     }
-    let n = least(io::count(got, buf), room);
+    let n = frame::least(io::count(got, buf), room);
     if n == 0 {
         return Got::End;
     }

@@ -1,4 +1,4 @@
-pub mod State
-pub mod Step
+pub mod Link
+pub mod Out
 pub mod Calls
-pub mod Told
+pub mod Answers

@@ -1,7 +1,7 @@
 // The calls on the link, each with its line of output.
 use crate::words::is_nothing;
 use crate::words::put_parts;
-use frame::Refusal;
+use refusals::Refusal;
 use link::Answer;
 use link::Answered;
 use link::Link;
@@ -38,7 +38,7 @@ pub struct Player {
 }
 
 // What a call answered.
-enum Outcome {
+enum LineAnswer {
     Refused(Refusal),
     Done(Report),
     // A run of bytes, with how many it took.
@@ -48,11 +48,11 @@ enum Outcome {
 // A call's outcome, and the link that it left.
 struct Called {
     pub link: Link,
-    pub outcome: Outcome,
+    pub outcome: LineAnswer,
 }
 
 // How many bytes a call reports for the line and handed up.
-struct Counts {
+struct ByteCounts {
     pub line: usize,
     pub up: usize,
 }
@@ -63,11 +63,11 @@ fn told(answered: Answered) -> Called {
     match answer {
         Answer::Refused(refusal) => Called {
             link: link,
-            outcome: Outcome::Refused(refusal),
+            outcome: LineAnswer::Refused(refusal),
         },
         Answer::Done(report) => Called {
             link: link,
-            outcome: Outcome::Done(report),
+            outcome: LineAnswer::Done(report),
         },
     }
 }
@@ -78,11 +78,11 @@ fn told_run(ran: Ran) -> Called {
     match answer {
         RunAnswer::Refused(refusal) => Called {
             link: link,
-            outcome: Outcome::Refused(refusal),
+            outcome: LineAnswer::Refused(refusal),
         },
         RunAnswer::Done(report, taken) => Called {
             link: link,
-            outcome: Outcome::Took(report, taken),
+            outcome: LineAnswer::Took(report, taken),
         },
     }
 }
@@ -106,34 +106,34 @@ fn call(verb: LinkVerb, link: Link, bytes: &[u8], line: &mut [u8], up: &mut [u8]
     }
 }
 
-fn counted(report: Report) -> Counts {
-    Counts {
+fn counted(report: Report) -> ByteCounts {
+    ByteCounts {
         line: report.line as usize,
         up: report.up as usize,
     }
 }
 
-fn counts_of(outcome: Outcome) -> Counts {
+fn counts_of(outcome: LineAnswer) -> ByteCounts {
     match outcome {
-        Outcome::Refused(_) => Counts { line: 0, up: 0 },
-        Outcome::Done(report) => counted(report),
-        Outcome::Took(report, _) => counted(report),
+        LineAnswer::Refused(_) => ByteCounts { line: 0, up: 0 },
+        LineAnswer::Done(report) => counted(report),
+        LineAnswer::Took(report, _) => counted(report),
     }
 }
 
 // The ticks accepted with this call. No play lasts until their count goes round.
-fn ticks_with(verb: LinkVerb, outcome: Outcome, ticks: u64) -> u64 {
+fn ticks_with(verb: LinkVerb, outcome: LineAnswer, ticks: u64) -> u64 {
     if !is_tick(verb) {
         return ticks;
     }
-    if let Outcome::Refused(_) = outcome {
+    if let LineAnswer::Refused(_) = outcome {
         return ticks;
     }
     std::num::wrapping_add_u64(ticks, 1)
 }
 
 // Whether a byte beyond those reported was written.
-fn is_spill(counts: Counts, line: &[u8], up: &[u8]) -> bool {
+fn is_spill(counts: ByteCounts, line: &[u8], up: &[u8]) -> bool {
     if is_spilled(line, counts.line) {
         return true;
     }
@@ -141,7 +141,7 @@ fn is_spill(counts: Counts, line: &[u8], up: &[u8]) -> bool {
 }
 
 // Whether a call has a line of output: of many ticks only one that has something to tell.
-fn is_told(verb: LinkVerb, outcome: Outcome, spilled: bool) -> bool {
+fn is_told(verb: LinkVerb, outcome: LineAnswer, spilled: bool) -> bool {
     let LinkVerb::Ticks = verb else {
         return true;
     };
@@ -149,8 +149,8 @@ fn is_told(verb: LinkVerb, outcome: Outcome, spilled: bool) -> bool {
         return true;
     }
     match outcome {
-        Outcome::Refused(_) | Outcome::Took(_, _) => true,
-        Outcome::Done(report) => !is_nothing(report),
+        LineAnswer::Refused(_) | LineAnswer::Took(_, _) => true,
+        LineAnswer::Done(report) => !is_nothing(report),
     }
 }
 
@@ -162,11 +162,11 @@ fn put_report(report: Report, line: &[u8], up: &[u8], out: &mut [u8], waiting: u
     put_front(up, report.up as usize, out, d)
 }
 
-fn put_outcome(outcome: Outcome, line: &[u8], up: &[u8], out: &mut [u8], waiting: usize) -> usize {
+fn put_outcome(outcome: LineAnswer, line: &[u8], up: &[u8], out: &mut [u8], waiting: usize) -> usize {
     match outcome {
-        Outcome::Refused(refusal) => put_refused(refusal, out, waiting),
-        Outcome::Done(report) => put_report(report, line, up, out, waiting),
-        Outcome::Took(report, taken) => {
+        LineAnswer::Refused(refusal) => put_refused(refusal, out, waiting),
+        LineAnswer::Done(report) => put_report(report, line, up, out, waiting),
+        LineAnswer::Took(report, taken) => {
             let w = put_counted(b" taken=", taken as u64, out, waiting);
             put_report(report, line, up, out, w)
         }
@@ -177,7 +177,7 @@ fn put_outcome(outcome: Outcome, line: &[u8], up: &[u8], out: &mut [u8], waiting
 fn put_line(
     verb: LinkVerb,
     ticks: u64,
-    outcome: Outcome,
+    outcome: LineAnswer,
     spilled: bool,
     line: &[u8],
     up: &[u8],
@@ -194,7 +194,7 @@ fn put_line(
 fn tell(
     verb: LinkVerb,
     ticks: u64,
-    outcome: Outcome,
+    outcome: LineAnswer,
     line: &mut [u8],
     up: &mut [u8],
     out: &mut [u8],

@@ -1,7 +1,7 @@
 // The words of a report (section 7 of document 01). Each part has a list of words, and each of its values a place in it.
-use job::Reset;
-use job::Sending;
-use job::Session;
+use report::Reset;
+use report::Sending;
+use report::Session;
 use report::Reception;
 use report::Report;
 use script::numbered;

@@ -10,10 +10,10 @@ use lib.Seq.{take-all, getD-drop}
 use native.Mathlib.Nat.{le-of-eq}
 use borrow.Author.Tests.{le-ltb, eq-eqb}
 use native.Mathlib.Omega.{arith}
-use Rattle.frame.specs.Pick.{pick}
-use Rattle.frame.proofs.Picks.{picked-first, picked-second}
-use Rattle.masks.specs.Response.{answers}
-use Rattle.masks.specs.Mask.{marks}
+use Rattle.refusals.specs.Pick.{pick}
+use Rattle.refusals.proofs.Picks.{picked-first, picked-second}
+use Rattle.masks.specs.Response.{isResponse}
+use Rattle.masks.specs.Mask.{isMarked}
 
 -- bytes are bytes from n on
 pub bytes-from : (n : ℕ) (body : List ℕ) → ((i : ℕ) → getD body i 0 < 256) → (i : ℕ) → getD (drop n body) i 0 < 256
@@ -26,8 +26,8 @@ rest n body = take-all (length body - n) (drop n body) (le-of-eq (length-drop n 
 no : false ≡ true → ⊥
 no e = let z : _≡_ {A = ℕ} 0 1 = cc in omega arith
 
-pub marks-rest : (n : ℕ) (body : List ℕ) (f : ℕ) {t : Bool} → marks (take (length body - n) (drop n body)) f ≡ t → marks (drop n body) f ≡ t
-marks-rest n body f e = ap (λ (mask : List ℕ). marks mask f) (sym (rest n body)) ∙ e
+pub marks-rest : (n : ℕ) (body : List ℕ) (f : ℕ) {t : Bool} → isMarked (take (length body - n) (drop n body)) f ≡ t → isMarked (drop n body) f ≡ t
+marks-rest n body f e = ap (λ (mask : List ℕ). isMarked mask f) (sym (rest n body)) ∙ e
 
 -- a test that must hold, and what follows
 pub both : (t : Bool) {a : Bool} → pick t a false ≡ true → (t ≡ true) × (a ≡ true)
@@ -37,5 +37,5 @@ both t = picked-first t no
 pub neither : (t : Bool) {a : Bool} → pick t false a ≡ true → (t ≡ false) × (a ≡ true)
 neither t = picked-second t no
 
-pub answers-by : (body : List ℕ) (command : ℕ) → 2 ≤ length body → getD body 0 0 ≡ 1 → answers body command ≡ eqb (getD body 1 0) command
+pub answers-by : (body : List ℕ) (command : ℕ) → 2 ≤ length body → getD body 0 0 ≡ 1 → isResponse body command ≡ eqb (getD body 1 0) command
 answers-by body command h e = simp (le-ltb (length body) 2 h, eq-eqb (getD body 0 0) 1 e)

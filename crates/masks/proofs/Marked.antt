@@ -11,33 +11,33 @@ use lib.Dec.{leb, ltb, eqb, lit<}
 use lib.ListN.{length, getD, length-append, List·getD-append}
 use lib.Seq.{getD-append-seam}
 use borrow.Author.Tests.{leb-true, leb-false, ltb-true, ltb-false, eqb-true, eqb-false, eq-eqb, ne-eqb}
-use Rattle.masks.specs.Mask.{bitOf, marks, marked, Rising}
+use Rattle.masks.specs.Mask.{bitOf, isMarked, marked, Rising}
 use Rattle.masks.proofs.Layouts.{neither}
 use Rattle.masks.proofs.Masks.{marked-yes, marked-no, marks-past}
 
 -- marked is: not 0, and the bit is 1
-pub marks-one : (mask : List ℕ) (f : ℕ) → (marks mask f ≡ true) ↔ ((1 ≤ f) × (bitOf mask f ≡ 1))
+pub marks-one : (mask : List ℕ) (f : ℕ) → (isMarked mask f ≡ true) ↔ ((1 ≤ f) × (bitOf mask f ≡ 1))
 marks-one mask f = (to, from)
   where
-    to : marks mask f ≡ true → (1 ≤ f) × (bitOf mask f ≡ 1)
+    to : isMarked mask f ≡ true → (1 ≤ f) × (bitOf mask f ≡ 1)
     to e =
         let parts = neither (eqb f 0) e in
         let not-zero : f ≡ 0 → ⊥ = eqb-false f 0 (parts .0) in
         (omega arith, eqb-true (bitOf mask f) 1 (parts .1))
 
-    from : (1 ≤ f) × (bitOf mask f ≡ 1) → marks mask f ≡ true
+    from : (1 ≤ f) × (bitOf mask f ≡ 1) → isMarked mask f ≡ true
     from (h, e) = rw (ne-eqb f 0 (λ z. omega arith), eq-eqb (bitOf mask f) 1 e)
 
 -- a mask of at most 32 bytes, with the bit for 256 zero, marks none above 255
-pub marks-most : (mask : List ℕ) (f : ℕ) → length mask ≤ 32 → marks mask 256 ≡ false → marks mask f ≡ true → f ≤ 255
+pub marks-most : (mask : List ℕ) (f : ℕ) → length mask ≤ 32 → isMarked mask 256 ≡ false → isMarked mask f ≡ true → f ≤ 255
 marks-most mask f few clear e = by (leb f 255) (eqb f 256) refl refl
   where
-    no : marks mask f ≡ false → f ≤ 255
+    no : isMarked mask f ≡ false → f ≤ 255
     no z = let n : _≡_ {A = ℕ} 0 1 = cc in absurd (omega arith)
 
     by : (t u : Bool) → leb f 255 ≡ t → eqb f 256 ≡ u → f ≤ 255
     by true u p q = leb-true f 255 p
-    by false true p q = no (ap (marks mask) (eqb-true f 256 q) ∙ clear)
+    by false true p q = no (ap (isMarked mask) (eqb-true f 256 q) ∙ clear)
     by false false p q =
         let above : 255 < f = leb-false f 255 p in
         let other : f ≡ 256 → ⊥ = eqb-false f 256 q in
@@ -49,16 +49,16 @@ marks-most mask f few clear e = by (leb f 255) (eqb f 256) refl refl
 
 module _ (mask : List ℕ) (n k : ℕ) where
   abbrev Is : ℕ → Type 0
-  Is n = (k ≤ n) × (marks mask k ≡ true)
+  Is n = (k ≤ n) × (isMarked mask k ≡ true)
 
   -- one number further, by whether it is marked
-  to-step : (t : Bool) → marks mask (suc n) ≡ t → (List·Memᴰ k (marked mask n) → Is n) → List·Memᴰ k (marked mask (suc n)) → Is (suc n)
+  to-step : (t : Bool) → isMarked mask (suc n) ≡ t → (List·Memᴰ k (marked mask n) → Is n) → List·Memᴰ k (marked mask (suc n)) → Is (suc n)
   to-step true e before m =
-      ⊎-elim (λ m. let r = before m in (omega arith, r .1)) (λ s. let q = List·Memᴰ·eq-of-singleton s in (omega arith, ap (marks mask) q ∙ e))
+      ⊎-elim (λ m. let r = before m in (omega arith, r .1)) (λ s. let q = List·Memᴰ·eq-of-singleton s in (omega arith, ap (isMarked mask) q ∙ e))
       (List·Memᴰ·append-cases (marked mask n) (subst (λ (l : List ℕ). List·Memᴰ k l) (marked-yes mask n e) m))
   to-step false e before m = let r = before (subst (λ (l : List ℕ). List·Memᴰ k l) (marked-no mask n e) m) in (omega arith, r .1)
 
-  from-step : (t u : Bool) → marks mask (suc n) ≡ t → eqb k (suc n) ≡ u → (k ≤ n → List·Memᴰ k (marked mask n)) → k ≤ suc n → marks mask k ≡ true
+  from-step : (t u : Bool) → isMarked mask (suc n) ≡ t → eqb k (suc n) ≡ u → (k ≤ n → List·Memᴰ k (marked mask n)) → k ≤ suc n → isMarked mask k ≡ true
       → List·Memᴰ k (marked mask (suc n))
   from-step true true e q before l m =
       subst (λ (l : List ℕ). List·Memᴰ k l) (sym (marked-yes mask n e)) (Memᴰ·append-right (marked mask n) (List·Memᴰ·head (eqb-true k (suc n) q)))
@@ -66,23 +66,23 @@ module _ (mask : List ℕ) (n k : ℕ) where
       let other = eqb-false k (suc n) q in
       subst (λ (l : List ℕ). List·Memᴰ k l) (sym (marked-yes mask n e)) (Memᴰ·append-left (suc n ∷ []) (before (omega arith)))
   from-step false true e q before l m =
-      let same : marks mask k ≡ marks mask (suc n) = ap (marks mask) (eqb-true k (suc n) q) in
+      let same : isMarked mask k ≡ isMarked mask (suc n) = ap (isMarked mask) (eqb-true k (suc n) q) in
       let z : _≡_ {A = ℕ} 0 1 = cc in
       absurd (omega arith)
   from-step false false e q before l m =
       let other = eqb-false k (suc n) q in
       subst (λ (l : List ℕ). List·Memᴰ k l) (sym (marked-no mask n e)) (before (omega arith))
 
-pub member-to : (mask : List ℕ) (n k : ℕ) → List·Memᴰ k (marked mask n) → (k ≤ n) × (marks mask k ≡ true)
+pub member-to : (mask : List ℕ) (n k : ℕ) → List·Memᴰ k (marked mask n) → (k ≤ n) × (isMarked mask k ≡ true)
 unfolding marked
 member-to mask zero k m = absurd (List·Memᴰ·not-nil m)
-member-to mask (suc n) k m = to-step mask n k (marks mask (suc n)) refl (member-to mask n k) m
+member-to mask (suc n) k m = to-step mask n k (isMarked mask (suc n)) refl (member-to mask n k) m
 
-pub member-from : (mask : List ℕ) (n k : ℕ) → 1 ≤ k → k ≤ n → marks mask k ≡ true → List·Memᴰ k (marked mask n)
+pub member-from : (mask : List ℕ) (n k : ℕ) → 1 ≤ k → k ≤ n → isMarked mask k ≡ true → List·Memᴰ k (marked mask n)
 unfolding marked
 member-from mask zero k h l e = absurd (omega arith)
 member-from mask (suc n) k h l e =
-    from-step mask n k (marks mask (suc n)) (eqb k (suc n)) refl refl (λ l. member-from mask n k h l e) l e
+    from-step mask n k (isMarked mask (suc n)) (eqb k (suc n)) refl refl (λ l. member-from mask n k h l e) l e
 
 -- ---- rising
 
@@ -113,7 +113,7 @@ marked-top mask n i h = member-to mask n (getD (marked mask n) i 0) (at-member (
     at-member (x ∷ l) zero h = List·Memᴰ·head refl
     at-member (x ∷ l) (suc i) h = List·Memᴰ·tail (at-member l i (omega arith))
 
-rising-step : (mask : List ℕ) (n : ℕ) (t : Bool) → marks mask (suc n) ≡ t → Rising (marked mask n) → Rising (marked mask (suc n))
+rising-step : (mask : List ℕ) (n : ℕ) (t : Bool) → isMarked mask (suc n) ≡ t → Rising (marked mask n) → Rising (marked mask (suc n))
 rising-step mask n true e up =
     subst Rising (sym (marked-yes mask n e)) (snoc-rising (marked mask n) (suc n) up (λ i h. let top = marked-top mask n i h in omega arith))
 rising-step mask n false e up = subst Rising (sym (marked-no mask n e)) up
@@ -121,7 +121,7 @@ rising-step mask n false e up = subst Rising (sym (marked-no mask n e)) up
 pub marked-rising : (mask : List ℕ) (n : ℕ) → Rising (marked mask n)
 unfolding marked
 marked-rising mask zero = λ i j h r. absurd (omega arith)
-marked-rising mask (suc n) = rising-step mask n (marks mask (suc n)) refl (marked-rising mask n)
+marked-rising mask (suc n) = rising-step mask n (isMarked mask (suc n)) refl (marked-rising mask n)
 
 -- an empty mask marks none
 pub marked-none : (n : ℕ) → marked [] n ≡ []

@@ -13,22 +13,22 @@ use lib.Dec.{eqb, lit<, eqb·suc-zero}
 use lib.ListN.{length, getD, drop, drop-of-length-le, length-append, List·getD-eq-default}
 use lib.Seq.{drop-cons}
 use borrow.Author.Tests.{ne-eqb}
-use Rattle.frame.specs.Pick.{pick}
-use Rattle.masks.specs.Mask.{bit, bitOf, marks, marked, onesIn}
+use Rattle.refusals.specs.Pick.{pick}
+use Rattle.masks.specs.Mask.{bit, bitOf, isMarked, marked, onesIn}
 
 -- of a number that is not 0 the bit decides
-pub marks-bit : (mask : List ℕ) (f : ℕ) → (f ≡ 0 → ⊥) → marks mask f ≡ eqb (bitOf mask f) 1
+pub marks-bit : (mask : List ℕ) (f : ℕ) → (f ≡ 0 → ⊥) → isMarked mask f ≡ eqb (bitOf mask f) 1
 marks-bit mask f h = simp (ne-eqb f 0 h)
 
 -- the bit of n + 1, counted from 0
 abbrev pub nth : List ℕ → ℕ → ℕ
 nth mask n = bit (getD mask (n / 8) 0) (n % 8)
 
-pub marks-suc : (mask : List ℕ) (n : ℕ) → marks mask (suc n) ≡ eqb (nth mask n) 1
+pub marks-suc : (mask : List ℕ) (n : ℕ) → isMarked mask (suc n) ≡ eqb (nth mask n) 1
 marks-suc mask n = simp (eqb·suc-zero, sub-one)
 
 -- a byte that the mask lacks marks nothing
-pub marks-past : (mask : List ℕ) (f : ℕ) → length mask ≤ (f - 1) / 8 → marks mask f ≡ false
+pub marks-past : (mask : List ℕ) (f : ℕ) → length mask ≤ (f - 1) / 8 → isMarked mask f ≡ false
 marks-past mask f h = past f (eqb f 0) (simp (List·getD-eq-default mask 0 h, zero-div))
   where
     past : (f : ℕ) (t : Bool) → eqb (bitOf mask f) 1 ≡ false → pick t false (eqb (bitOf mask f) 1) ≡ false
@@ -40,11 +40,11 @@ nth-lt mask n = mod-lt (getD mask (n / 8) 0 / 2 ^ (n % 8)) (lit< tt)
 
 -- ---- those marked, one number further
 
-pub marked-yes : (mask : List ℕ) (n : ℕ) → marks mask (suc n) ≡ true → marked mask (suc n) ≡ marked mask n ++ (suc n ∷ [])
+pub marked-yes : (mask : List ℕ) (n : ℕ) → isMarked mask (suc n) ≡ true → marked mask (suc n) ≡ marked mask n ++ (suc n ∷ [])
 unfolding marked
 marked-yes mask n e = ap (λ (t : Bool). marked mask n ++ pick t (suc n ∷ []) []) e
 
-pub marked-no : (mask : List ℕ) (n : ℕ) → marks mask (suc n) ≡ false → marked mask (suc n) ≡ marked mask n
+pub marked-no : (mask : List ℕ) (n : ℕ) → isMarked mask (suc n) ≡ false → marked mask (suc n) ≡ marked mask n
 unfolding marked
 marked-no mask n e = ap (λ (t : Bool). marked mask n ++ pick t (suc n ∷ []) []) e ∙ append-nil (marked mask n)
 
@@ -56,7 +56,7 @@ one-or-none n (suc (suc d)) h = absurd (omega arith)
 pub marked-length : (mask : List ℕ) (n : ℕ) → length (marked mask (suc n)) ≡ length (marked mask n) + nth mask n
 unfolding marked
 marked-length mask n =
-    length-append (marked mask n) (pick (marks mask (suc n)) (suc n ∷ []) [])
+    length-append (marked mask n) (pick (isMarked mask (suc n)) (suc n ∷ []) [])
     ∙ ap (λ (t : Bool). length (marked mask n) + length (pick t (suc n ∷ []) [])) (marks-suc mask n)
     ∙ ap (λ (k : ℕ). length (marked mask n) + k) (one-or-none (suc n) (nth mask n) (nth-lt mask n))
 
@@ -125,7 +125,7 @@ ones-marked (byte ∷ mask) bytes =
     ∙ ap (λ (x : ℕ). length (marked (byte ∷ mask) x)) size
 
 -- with the bit for 256 zero, the number of one bits is the number of those marked from 1 to 255
-pub ones-supported : (mask : List ℕ) → ((i : ℕ) → getD mask i 0 < 256) → length mask ≤ 32 → marks mask 256 ≡ false
+pub ones-supported : (mask : List ℕ) → ((i : ℕ) → getD mask i 0 < 256) → length mask ≤ 32 → isMarked mask 256 ≡ false
     → onesIn mask ≡ length (marked mask 255)
 ones-supported mask bytes few clear =
     let size : length mask * 8 + (256 - length mask * 8) ≡ 256 = omega arith in

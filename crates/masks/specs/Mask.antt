@@ -6,7 +6,7 @@ use mathlib.Core.List.{List, [], _∷_, _++_}
 use lib.Count.{ones}
 use lib.Dec.{eqb}
 use lib.ListN.{length, getD}
-use Rattle.frame.specs.Pick.{pick}
+use Rattle.refusals.specs.Pick.{pick}
 
 -- bit k of a byte, bit 0 the lowest: 0 or 1
 abbrev pub bit : ℕ → ℕ → ℕ
@@ -17,13 +17,13 @@ abbrev pub bitOf : List ℕ → ℕ → ℕ
 bitOf mask f = bit (getD mask ((f - 1) / 8) 0) ((f - 1) % 8)
 
 -- function f is supported, node f is there
-abbrev pub marks : List ℕ → ℕ → Bool
-marks mask f = pick (eqb f 0) false (eqb (bitOf mask f) 1)
+abbrev pub isMarked : List ℕ → ℕ → Bool
+isMarked mask f = pick (eqb f 0) false (eqb (bitOf mask f) 1)
 
 -- those of 1 to n that the mask marks, in rising order
 unfoldable pub marked : List ℕ → ℕ → List ℕ
 marked mask zero = []
-marked mask (suc n) = marked mask n ++ pick (marks mask (suc n)) (suc n ∷ []) []
+marked mask (suc n) = marked mask n ++ pick (isMarked mask (suc n)) (suc n ∷ []) []
 
 -- the number of one bits, byte by byte
 unfoldable pub onesIn : List ℕ → ℕ

@@ -5,11 +5,11 @@ use mathlib.Core.Bool.{Bool, false}
 use mathlib.Core.List.{List}
 use lib.Dec.{ltb, eqb}
 use lib.ListN.{length, getD}
-use Rattle.frame.specs.Pick.{pick}
+use Rattle.refusals.specs.Pick.{pick}
 
 -- Type 01 and this Command
-abbrev pub answers : List ℕ → ℕ → Bool
-answers body command =
+abbrev pub isResponse : List ℕ → ℕ → Bool
+isResponse body command =
     pick (ltb (length body) 2) false
     (pick (eqb (getD body 0 0) 1)
     (eqb (getD body 1 0) command)

@@ -1,10 +1,10 @@
 // What every body that is read has at its front.
 ghost use mathlib.Core.Path.{_≡_};
-ghost use Rattle.masks.specs.Response.{answers};
+ghost use Rattle.masks.specs.Response.{isResponse};
 
 // Whether the body is a response to this command.
 pub fn is_response(body: &[u8], command: u8) -> bool
-    ensures { λ r. ⌜ r ≡ answers (now (body .entry)) command ⌝ }
+    ensures { λ r. ⌜ r ≡ isResponse (now (body .entry)) command ⌝ }
 {
     if body.len() < 2 {
         return false;

@@ -8,8 +8,8 @@ use lib.Dec.{eqb}
 use lib.ListN.{length, getD}
 use borrow.Author.Tests.{eqb-true, le-ltb}
 use native.Mathlib.Omega.{arith}
-use Rattle.frame.specs.Pick.{pick}
-use Rattle.masks.specs.Response.{answers}
+use Rattle.refusals.specs.Pick.{pick}
+use Rattle.masks.specs.Response.{isResponse}
 use Rattle.masks.proofs.Layouts.{both}
 use Rattle.nodes.specs.Nodes.{isNodeList, nodeAnswer, nodeListOf, OfNodeList}
 
@@ -28,7 +28,7 @@ of-size body false false p q e =
     absurd (omega arith)
 
 pub of-node-list : (body : List ℕ) → isNodeList body ≡ true → OfNodeList body
-of-node-list body e = of-size body (eqb (length body) 36) (eqb (length body) 7) refl refl (both (answers body 2) e .1)
+of-node-list body e = of-size body (eqb (length body) 36) (eqb (length body) 7) refl refl (both (isResponse body 2) e .1)
 
 -- what a body of its layout gives
 pub node-list-yes : (body : List ℕ) (room : ℕ) → 232 ≤ room → isNodeList body ≡ true → nodeListOf body room ≡ nodeAnswer body

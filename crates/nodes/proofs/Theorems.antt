@@ -9,12 +9,12 @@ use lib.ListN.{length, getD, take, drop, replicate}
 use lib.Seq.{take-append-seam, drop-append-seam}
 use lib.Dec.{ltb}
 use borrow.Author.Tests.{lt-ltb}
-use Rattle.frame.specs.Pick.{pick}
-use Rattle.frame.specs.declared.refusal.Refusal.the-variants as refusal
-use Rattle.frame.proofs.Picks.{through}
-use Rattle.frame.proofs.Theorems.{fixed}
+use Rattle.refusals.specs.Pick.{pick}
+use Rattle.refusals.specs.declared.Refusal.the-variants as refusal
+use Rattle.refusals.proofs.Picks.{through}
+use Rattle.refusals.proofs.Theorems.{fixed}
 use Rattle.masks.specs.Mask.{bitOf, marked, Rising}
-use Rattle.nodes.specs.Nodes.{isNodeList, nodeMask, nodesOf, nodeAnswer, nodesTold, nodeListOf, leftBy, Listed}
+use Rattle.nodes.specs.Nodes.{isNodeList, nodeMask, nodesOf, nodeAnswer, nodesTold, nodeListOf, listLeft, ReadNodes}
 use Rattle.nodes.specs.declared.NodeList.{NodeList}
 use Rattle.nodes.specs.declared.NodeList.the-variants as nodes
 use Rattle.nodes.proofs.Layouts.{node-list-yes}
@@ -23,7 +23,7 @@ use Rattle.masks.proofs.Masks.{marked-le}
 
 -- ---- Section 12: each promise determines its answer and every lent byte after the call, refusals too
 
-pub read-nodes-determined : {body lent : List ℕ} {r q : NodeList} {l m : List ℕ} → Listed body lent r l → Listed body lent q m → (r ≡ q) × (l ≡ m)
+pub read-nodes-determined : {body lent : List ℕ} {r q : NodeList} {l m : List ℕ} → ReadNodes body lent r l → ReadNodes body lent q m → (r ≡ q) × (l ≡ m)
 read-nodes-determined a b = (fixed (a .answer) (b .answer), fixed (a .left) (b .left))
 
 -- ---- node list
@@ -51,18 +51,18 @@ pub nodes-most : (body : List ℕ) → length (nodesOf body) ≤ 232
 nodes-most body = marked-le (nodeMask body) 232
 
 -- the nodes stand in the first bytes of the list, and the bytes beyond stay
-pub nodes-written : (body lent : List ℕ) {r : NodeList} {lent′ : List ℕ} → Listed body lent r lent′ → 232 ≤ length lent → isNodeList body ≡ true
+pub nodes-written : (body lent : List ℕ) {r : NodeList} {lent′ : List ℕ} → ReadNodes body lent r lent′ → 232 ≤ length lent → isNodeList body ≡ true
     → (take (length (nodesOf body)) lent′ ≡ nodesOf body) × (drop (length (nodesOf body)) lent′ ≡ drop (length (nodesOf body)) lent)
 nodes-written body lent l room e =
     let n = length (nodesOf body) in
-    let left = l .left ∙ ap (λ (a : NodeList). leftBy a (nodesOf body) lent) (node-list-yes body (length lent) room e) in
+    let left = l .left ∙ ap (λ (a : NodeList). listLeft a (nodesOf body) lent) (node-list-yes body (length lent) room e) in
     (ap (take n) left ∙ take-append-seam (nodesOf body) (drop n lent), ap (drop n) left ∙ drop-append-seam (nodesOf body) (drop n lent))
 
 -- ROOM before FORM, whatever the body; a refusal leaves all
-pub nodes-room : (body lent : List ℕ) {r : NodeList} {lent′ : List ℕ} → Listed body lent r lent′ → length lent < 232 → (r ≡ nodes.Refused refusal.Room) × (lent′ ≡ lent)
+pub nodes-room : (body lent : List ℕ) {r : NodeList} {lent′ : List ℕ} → ReadNodes body lent r lent′ → length lent < 232 → (r ≡ nodes.Refused refusal.Room) × (lent′ ≡ lent)
 nodes-room body lent l short =
     let e : nodeListOf body (length lent) ≡ nodes.Refused refusal.Room = rw (lt-ltb (length lent) 232 short) in
-    (l .answer ∙ e, l .left ∙ ap (λ (a : NodeList). leftBy a (nodesOf body) lent) e)
+    (l .answer ∙ e, l .left ∙ ap (λ (a : NodeList). listLeft a (nodesOf body) lent) e)
 
 -- ---- Section 3: the number of each refusal alone, and 0 with the values of each answer
 

@@ -6,11 +6,11 @@ use mathlib.Core.Bool.{Bool, false}
 use mathlib.Core.List.{List, [], _∷_}
 use lib.Dec.{ltb, eqb}
 use lib.ListN.{length, getD, take, drop}
-use Rattle.frame.specs.Pick.{pick}
+use Rattle.refusals.specs.Pick.{pick}
 use Rattle.frame.specs.Bytes.{over}
-use Rattle.frame.specs.Refusals.{numberOf}
-use Rattle.frame.specs.declared.refusal.Refusal.the-variants as refusal
-use Rattle.masks.specs.Response.{answers}
+use Rattle.refusals.specs.Refusals.{numberOf}
+use Rattle.refusals.specs.declared.Refusal.the-variants as refusal
+use Rattle.masks.specs.Response.{isResponse}
 use Rattle.masks.specs.Mask.{marked}
 use Rattle.nodes.specs.declared.NodeList.{NodeList}
 use Rattle.nodes.specs.declared.NodeList.the-variants.{Refused, Answer}
@@ -18,7 +18,7 @@ use Rattle.nodes.specs.declared.NodeList.the-variants.{Refused, Answer}
 -- with Type and Command 36 bytes, or 7 with no mask
 abbrev pub isNodeList : List ℕ → Bool
 isNodeList body =
-    pick (answers body 2)
+    pick (isResponse body 2)
     (pick (eqb (length body) 36)
     (eqb (getD body 4 0) 29)
     (pick (eqb (length body) 7)
@@ -55,13 +55,13 @@ nodeListOf body room =
     (pick (isNodeList body) (nodeAnswer body) (Refused refusal.Form))
 
 -- the lent list after the call
-abbrev pub leftBy : NodeList → List ℕ → List ℕ → List ℕ
-leftBy (Refused k) nodes lent = lent
-leftBy (Answer v c n t u) nodes lent = over nodes lent
+abbrev pub listLeft : NodeList → List ℕ → List ℕ → List ℕ
+listLeft (Refused k) nodes lent = lent
+listLeft (Answer v c n t u) nodes lent = over nodes lent
 
-pub record Listed (body lent : List ℕ) (r : NodeList) (lent′ : List ℕ) : Type 0 where
+pub record ReadNodes (body lent : List ℕ) (r : NodeList) (lent′ : List ℕ) : Type 0 where
   pub answer : r ≡ nodeListOf body (length lent)
-  pub left : lent′ ≡ leftBy (nodeListOf body (length lent)) (nodesOf body) lent
+  pub left : lent′ ≡ listLeft (nodeListOf body (length lent)) (nodesOf body) lent
 
 -- what the layouts say of a body
 pub record OfNodeList (body : List ℕ) : Type 0 where
@@ -69,11 +69,11 @@ pub record OfNodeList (body : List ℕ) : Type 0 where
   pub size : length body ≡ getD body 4 0 + 7
 
 -- what is answered and written of a body of one of the layouts
-pub record Filled (body lent : List ℕ) (r : NodeList) (lent′ : List ℕ) : Type 0 where
+pub record Fill (body lent : List ℕ) (r : NodeList) (lent′ : List ℕ) : Type 0 where
   pub answer : r ≡ nodeAnswer body
   pub left : lent′ ≡ over (nodesOf body) lent
 
 -- what the loop over a mask writes and answers
-pub record Written (mask lent : List ℕ) (n : ℕ) (lent′ : List ℕ) : Type 0 where
+pub record ListNodes (mask lent : List ℕ) (n : ℕ) (lent′ : List ℕ) : Type 0 where
   pub count : n ≡ length (marked mask 232)
   pub left : lent′ ≡ over (marked mask 232) lent

@@ -1,11 +1,11 @@
 // Node list RES, command 02 (document 01, section 8; 002, 7.4).
-use frame::Refusal;
+use refusals::Refusal;
 use masks::is_marked;
 use masks::is_response;
 ghost use mathlib.Core.Path.{_≡_};
 ghost use Prim.Native.Nat.{_≤_};
 ghost use lib.ListN.{length};
-ghost use Rattle.nodes.specs.Nodes.{isNodeList, OfNodeList, Filled, Listed, Written};
+ghost use Rattle.nodes.specs.Nodes.{isNodeList, OfNodeList, Fill, ReadNodes, ListNodes};
 
 pub enum NodeList {
     Refused(Refusal),
@@ -38,7 +38,7 @@ fn is_node_list(body: &[u8]) -> bool
 // Writes the nodes that the mask marks over the first bytes of the list, and answers how many they are.
 fn list_nodes(mask: &[u8], list: &mut [u8]) -> u8
     requires { ⌜ 232 ≤ length (now list) ⌝ }
-    ensures { λ r. ⌜ Written (now (mask .entry)) (now (list .entry)) r (now (list .exit)) ⌝ }
+    ensures { λ r. ⌜ ListNodes (now (mask .entry)) (now (list .entry)) r (now (list .exit)) ⌝ }
 {
     let mut n: u8 = 0;
     let mut k: u8 = 0;
@@ -55,7 +55,7 @@ fn list_nodes(mask: &[u8], list: &mut [u8]) -> u8
 // Lists the nodes of a body of one of the layouts.
 fn fill(body: &[u8], list: &mut [u8]) -> NodeList
     requires { ⌜ (232 ≤ length (now list)) × OfNodeList (now body) ⌝ }
-    ensures { λ r. ⌜ Filled (now (body .entry)) (now (list .entry)) r (now (list .exit)) ⌝ }
+    ensures { λ r. ⌜ Fill (now (body .entry)) (now (list .entry)) r (now (list .exit)) ⌝ }
 {
     let end = body[4] as usize + 5;
     let count = list_nodes(&body[5..end], list);
@@ -70,7 +70,7 @@ fn fill(body: &[u8], list: &mut [u8]) -> NodeList
 
 // Reads the whole body, and lists its nodes. Bytes of the list beyond them stay; a refusal leaves all of them.
 pub fn read_nodes(body: &[u8], list: &mut [u8]) -> NodeList
-    ensures { λ r. ⌜ Listed (now (body .entry)) (now (list .entry)) r (now (list .exit)) ⌝ }
+    ensures { λ r. ⌜ ReadNodes (now (body .entry)) (now (list .entry)) r (now (list .exit)) ⌝ }
 {
     if list.len() < 232 {
         return NodeList::Refused(Refusal::Room);

@@ -7,21 +7,22 @@ use native.Mathlib.Omega.{arith}
 use lib.Dec.{ltb, eqb}
 use lib.ListN.{length, getD, take, drop}
 use lib.Seq.{take-append-seam, take-at, drop-at}
-use Rattle.frame.specs.Pick.{pick}
+use Rattle.refusals.specs.Pick.{pick}
 use Rattle.frame.specs.declared.builder.Built.{Built}
 use Rattle.frame.specs.declared.builder.Built.the-variants.{Frame}
 use Rattle.frame.specs.Bytes.{over}
 use Rattle.frame.specs.Frame.{counted, checksum, frameOf}
 use Rattle.frame.specs.Builder.{builtOf, leftBy, Build}
-use Rattle.frame.proofs.Picks.{through-by}
-use Rattle.frame.proofs.Theorems.{fixed, frame-length, frame-checksum, build-accepts, build-accepted}
+use Rattle.refusals.proofs.Picks.{through-by}
+use Rattle.refusals.proofs.Theorems.{fixed}
+use Rattle.frame.proofs.Theorems.{frame-length, frame-checksum, build-accepts, build-accepted}
 use Rattle.reading.specs.declared.reader.Reading.{Reading}
 use Rattle.reading.specs.declared.reader.Reading.the-variants.{Parts}
-use Rattle.reading.specs.Reader.{readingTold, readingOf, parametersOf}
+use Rattle.reading.specs.Reader.{readingTold, read, parametersOf}
 use Rattle.reading.proofs.Whole.{Whole, reads-whole, whole-reads, whole-length, whole-frame}
 
 -- Section 12: the promise determines its answer.
-pub read-determined : (bytes : List ℕ) {r q : Reading} → r ≡ readingOf bytes → q ≡ readingOf bytes → r ≡ q
+pub read-determined : (bytes : List ℕ) {r q : Reading} → r ≡ read bytes → q ≡ read bytes → r ≡ q
 read-determined bytes = fixed
 
 -- a frame said place by place
@@ -44,7 +45,7 @@ frame-parameters kind command ps = take-append-seam ps (checksum (counted kind c
 
 -- what build accepts reads back as the same parts
 pub built-reads : (kind command : ℕ) (ps : List ℕ) → kind ≤ 1
-    → (readingOf (frameOf kind command ps) ≡ Parts kind command (length ps)) × (parametersOf (frameOf kind command ps) (length ps) ≡ ps)
+    → (read (frameOf kind command ps) ≡ Parts kind command (length ps)) × (parametersOf (frameOf kind command ps) (length ps) ≡ ps)
 built-reads kind command ps h = (
   whole-reads (frameOf kind command ps) kind command (length ps) (frame-whole kind command ps h),
   frame-parameters kind command ps,
@@ -52,7 +53,7 @@ built-reads kind command ps h = (
 
 -- the bytes that a build leaves: those of the answer read back as the same parts, and bytes beyond the frame stay
 pub build-reads : (kind command : ℕ) (ps lent : List ℕ) (m : ℕ) (lent′ : List ℕ) → Build kind command ps lent (Frame m) lent′
-    → (readingOf (take m lent′) ≡ Parts kind command (length ps)) × (parametersOf (take m lent′) (length ps) ≡ ps) × (drop m lent′ ≡ drop m lent)
+    → (read (take m lent′) ≡ Parts kind command (length ps)) × (parametersOf (take m lent′) (length ps) ≡ ps) × (drop m lent′ ≡ drop m lent)
 build-reads kind command ps lent m lent′ b =
     let f = frameOf kind command ps in
     let a = build-accepts kind (length ps) (length lent) m (sym (b .answer)) in
@@ -61,17 +62,17 @@ build-reads kind command ps lent m lent′ b =
     let t : take m lent′ ≡ f = ap (take m) e ∙ take-at f (drop (length f) lent) m l in
     let r = built-reads kind command ps (a .0) in
     let d : drop m lent′ ≡ drop m lent = ap (drop m) e ∙ drop-at f (drop (length f) lent) m l ∙ ap (λ (i : ℕ). drop i lent) l in
-    (ap readingOf t ∙ r .0, ap (λ (s : List ℕ). parametersOf s (length ps)) t ∙ r .1, d)
+    (ap read t ∙ r .0, ap (λ (s : List ℕ). parametersOf s (length ps)) t ∙ r .1, d)
 
 -- Section 3, read: what reads is the frame of its parts, with Type at most 01, so many parameters as the answer says, and at most 252 where Length is a byte
-pub read-built : (bytes : List ℕ) (kind command n : ℕ) → readingOf bytes ≡ Parts kind command n
+pub read-built : (bytes : List ℕ) (kind command n : ℕ) → read bytes ≡ Parts kind command n
     → (bytes ≡ frameOf kind command (parametersOf bytes n)) × (length (parametersOf bytes n) ≡ n) × (kind ≤ 1) × (getD bytes 1 0 < 256 → n ≤ 252)
 read-built bytes kind command n e =
     let w = reads-whole bytes kind command n e in
     (whole-frame bytes kind command n w, whole-length bytes kind command n w, w .known, λ h. omega (arith, w .counts))
 
 -- so building from what was read gives the same bytes again, over the first of any lent bytes that are as many or more
-pub read-rebuilds : (bytes : List ℕ) (kind command n : ℕ) → readingOf bytes ≡ Parts kind command n → getD bytes 1 0 < 256
+pub read-rebuilds : (bytes : List ℕ) (kind command n : ℕ) → read bytes ≡ Parts kind command n → getD bytes 1 0 < 256
     → (lent : List ℕ) → length bytes ≤ length lent
     → Build kind command (parametersOf bytes n) lent (Frame (length bytes)) (over bytes lent)
 read-rebuilds bytes kind command n e h lent room =
@@ -92,7 +93,7 @@ module _ (bytes : List ℕ) where
   abbrev len : ℕ
   len = getD bytes 1 0
 
-  pub read-told : {r : Reading} → r ≡ readingOf bytes
+  pub read-told : {r : Reading} → r ≡ read bytes
       → readingTold r
       ≡ pick (eqb (length bytes) 0) (5 ∷ [])
       (pick (eqb (getD bytes 0 0) 1)

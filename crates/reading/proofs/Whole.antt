@@ -9,11 +9,11 @@ use lib.Dec.{ltb, eqb}
 use lib.ListN.{length, getD, take, drop, length-drop}
 use lib.Seq.{take-at, take-all, take-suc, length-take-le}
 use borrow.Author.Tests.{le-ltb, eq-eqb, ne-eqb, ltb-false, eqb-true}
-use Rattle.frame.specs.declared.refusal.Refusal.{Refusal}
+use Rattle.refusals.specs.declared.Refusal.{Refusal}
 use Rattle.reading.specs.declared.reader.Reading.the-variants.{Refused, Parts}
 use Rattle.frame.specs.Frame.{checksum, frameOf}
-use Rattle.reading.specs.Reader.{readingOf, parametersOf}
-use Rattle.frame.proofs.Picks.{picked-first, picked-second}
+use Rattle.reading.specs.Reader.{read, parametersOf}
+use Rattle.refusals.proofs.Picks.{picked-first, picked-second}
 
 pub record Whole (bytes : List ℕ) (kind command n : ℕ) : Type 0 where
   pub first : getD bytes 0 0 ≡ 1
@@ -49,7 +49,7 @@ whole-of bytes kind command n start long whole alone right known e =
       sum = ap (λ (i : ℕ). getD bytes i 0) (sym f) ∙ sym right ∙ ap (λ (l : ℕ). checksum (take l (drop 1 bytes))) c;
     }
 
-pub reads-whole : (bytes : List ℕ) (kind command n : ℕ) → readingOf bytes ≡ Parts kind command n → Whole bytes kind command n
+pub reads-whole : (bytes : List ℕ) (kind command n : ℕ) → read bytes ≡ Parts kind command n → Whole bytes kind command n
 reads-whole bytes kind command n e =
     let some = picked-second (eqb (length bytes) 0) no e in
     let start = picked-first (eqb (getD bytes 0 0) 1) no (some .1) in
@@ -68,7 +68,7 @@ reads-whole bytes kind command n e =
     (ltb-false _ _ (known .0))
     (known .1)
 
-pub whole-reads : (bytes : List ℕ) (kind command n : ℕ) → Whole bytes kind command n → readingOf bytes ≡ Parts kind command n
+pub whole-reads : (bytes : List ℕ) (kind command n : ℕ) → Whole bytes kind command n → read bytes ≡ Parts kind command n
 whole-reads bytes kind command n w =
     let f : n + 3 + 1 ≡ n + 4 = omega arith in
     let some : length bytes ≡ 0 → ⊥ = λ e. omega arith in

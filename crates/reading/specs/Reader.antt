@@ -4,10 +4,10 @@ use Prim.Native.Nat.{ℕ, _+_, _-_}
 use mathlib.Core.List.{List, [], _∷_}
 use lib.Dec.{ltb, eqb}
 use lib.ListN.{length, getD, take, drop}
-use Rattle.frame.specs.Pick.{pick}
+use Rattle.refusals.specs.Pick.{pick}
 use Rattle.frame.specs.Frame.{checksum}
-use Rattle.frame.specs.Refusals.{numberOf}
-use Rattle.frame.specs.declared.refusal.Refusal.the-variants as refusal
+use Rattle.refusals.specs.Refusals.{numberOf}
+use Rattle.refusals.specs.declared.Refusal.the-variants as refusal
 use Rattle.reading.specs.declared.reader.Reading.{Reading}
 use Rattle.reading.specs.declared.reader.Reading.the-variants.{Refused, Parts}
 
@@ -16,13 +16,17 @@ abbrev pub readingTold : Reading → List ℕ
 readingTold (Refused k) = numberOf k ∷ []
 readingTold (Parts kind command count) = 0 ∷ kind ∷ command ∷ count ∷ []
 
--- of bytes that are as many as their Length says: SUM, KIND, and the parts
-abbrev pub measuredOf : List ℕ → ℕ → Reading
-measuredOf bytes len =
-    pick (eqb (checksum (take len (drop 1 bytes))) (getD bytes (len + 1) 0))
-    (pick (ltb 1 (getD bytes 2 0)) (Refused refusal.Kind)
-    (Parts (getD bytes 2 0) (getD bytes 3 0) (len - 3)))
+-- SUM, KIND, and the parts: by what the checksum has to be, and the last byte
+abbrev pub partsOf : ℕ → ℕ → ℕ → ℕ → ℕ → Reading
+partsOf kind command len sum last =
+    pick (eqb sum last)
+    (pick (ltb 1 kind) (Refused refusal.Kind)
+    (Parts kind command (len - 3)))
     (Refused refusal.Sum)
+
+-- of bytes that are as many as their Length says
+abbrev pub measuredOf : List ℕ → ℕ → Reading
+measuredOf bytes len = partsOf (getD bytes 2 0) (getD bytes 3 0) len (checksum (take len (drop 1 bytes))) (getD bytes (len + 1) 0)
 
 -- of bytes that begin with 01 and a Length
 abbrev pub sizedOf : List ℕ → ℕ → Reading
@@ -32,8 +36,8 @@ sizedOf bytes len =
     (pick (ltb (len + 2) (length bytes)) (Refused refusal.Tail)
     (measuredOf bytes len)))
 
-abbrev pub readingOf : List ℕ → Reading
-readingOf bytes =
+abbrev pub read : List ℕ → Reading
+read bytes =
     pick (eqb (length bytes) 0) (Refused refusal.Short)
     (pick (eqb (getD bytes 0 0) 1)
     (pick (eqb (length bytes) 1) (Refused refusal.Short)

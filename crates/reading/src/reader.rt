@@ -1,13 +1,9 @@
 // Reading a whole frame (sections 2 and 3).
-use frame::Refusal;
+use refusals::Refusal;
 use frame::fold;
 ghost use mathlib.Core.Path.{_≡_};
-ghost use Prim.Native.Nat.{_-_, _≤_};
-ghost use lib.Dec.{ltb, eqb};
-ghost use Rattle.frame.specs.Pick.{pick};
-ghost use Rattle.reading.specs.Reader.{readingOf};
-ghost use Rattle.frame.specs.declared.refusal.Refusal.the-variants.{Sum, Kind};
-ghost use Rattle.reading.specs.declared.reader.Reading.the-variants.{Refused, Parts};
+ghost use Prim.Native.Nat.{_≤_};
+ghost use Rattle.reading.specs.Reader as spec;
 
 pub enum Reading {
     Refused(Refusal),
@@ -16,9 +12,9 @@ pub enum Reading {
 }
 
 // What is left to be looked at in a frame that is as long as its Length says. It is given numbers alone, so that it costs `read` no call.
-fn measured(kind: u8, command: u8, len: u8, sum: u8, last: u8) -> Reading
+fn parts_of(kind: u8, command: u8, len: u8, sum: u8, last: u8) -> Reading
     requires { ⌜ 3 ≤ len ⌝ }
-    ensures { λ r. ⌜ r ≡ pick (eqb sum last) (pick (ltb 1 kind) (Refused Kind) (Parts kind command (len - 3))) (Refused Sum) ⌝ }
+    ensures { λ r. ⌜ r ≡ spec.partsOf kind command len sum last ⌝ }
 {
     if sum != last {
         return Reading::Refused(Refusal::Sum);
@@ -35,7 +31,7 @@ fn measured(kind: u8, command: u8, len: u8, sum: u8, last: u8) -> Reading
 
 // Reads the bytes as one whole frame.
 pub fn read(bytes: &[u8]) -> Reading
-    ensures { λ r. ⌜ r ≡ readingOf (now (bytes .entry)) ⌝ }
+    ensures { λ r. ⌜ r ≡ spec.read (now (bytes .entry)) ⌝ }
 {
     let n = bytes.len();
     if n == 0 {
@@ -61,5 +57,5 @@ pub fn read(bytes: &[u8]) -> Reading
     }
     let end = length as usize + 1;
     let sum = fold(255, &bytes[1..end]);
-    measured(bytes[2], bytes[3], length, sum, bytes[end])
+    parts_of(bytes[2], bytes[3], length, sum, bytes[end])
 }

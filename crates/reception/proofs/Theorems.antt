@@ -1,51 +1,24 @@
--- Reception's promises fix their answers, and the body that they leave (document 01, section 12).
---     hear-byte-determined, hear-tick-determined                    the next hearing and the event
---     hunted-determined, measured-determined, followed-determined   the same, by where the hearing stands
---     hunting-determined                                            whether it hunts
---     keep-determined                                               the body of 254 bytes after a byte
+-- Reception's promises fix their answers (document 01, section 12).
+--     is-awaited-determined  whether a response is the awaited one
+--     said-on-determined     what reception says of an event
+--     sums-on-determined     the run of bad sums after an event
 -- Assumes nothing.
-use mathlib.Core.Path.{_≡_, refl}
+use mathlib.Core.Path.{_≡_}
 use mathlib.Core.Bool.{Bool}
-use mathlib.Core.List.{List}
 use Prim.Native.Nat.{ℕ}
-use lib.ListN.{length, length-set}
-use Rattle.frame.proofs.Theorems.{fixed}
-use Rattle.reception.specs.declared.hearing.Event.{Event}
-use Rattle.reception.specs.declared.hearing.Event.the-variants.{Inside, Kept, Skipped, Alone, Ended, TickHunting, TickInside, Aborted}
-use Rattle.reception.specs.declared.hearing.Heard.{Heard}
-use Rattle.reception.specs.declared.hearing.Hearing.{Hearing}
-use Rattle.reception.specs.declared.hearing.Partial.{Partial}
-use Rattle.reception.specs.Hearing.{hunted, measured, followed, heardByte, heardTick, isHunting, keep}
+use Rattle.refusals.proofs.Theorems.{fixed}
+use Rattle.hearing.specs.declared.hearing.Event.{Event}
+use Rattle.reception.specs.declared.said.Awaited.{Awaited}
+use Rattle.reception.specs.declared.said.Said.{Said}
+use Rattle.reception.specs.declared.sums.Sums.{Sums}
+use Rattle.reception.specs.Said.{isAwaited, saidOn}
+use Rattle.reception.specs.Sums.{sumsOn}
 
-pub hear-byte-determined : (h : Hearing) (b : ℕ) {r q : Heard} → r ≡ heardByte b h → q ≡ heardByte b h → r ≡ q
-hear-byte-determined h b x y = fixed x y
+pub is-awaited-determined : (command : ℕ) (w : Awaited) {r q : Bool} → r ≡ isAwaited command w → q ≡ isAwaited command w → r ≡ q
+is-awaited-determined command w = fixed
 
-pub hear-tick-determined : (h : Hearing) {r q : Heard} → r ≡ heardTick h → q ≡ heardTick h → r ≡ q
-hear-tick-determined h x y = fixed x y
+pub said-on-determined : (e : Event) (w : Awaited) {r q : Said} → r ≡ saidOn e w → q ≡ saidOn e w → r ≡ q
+said-on-determined e w = fixed
 
-pub hunted-determined : (b : ℕ) {r q : Heard} → r ≡ hunted b → q ≡ hunted b → r ≡ q
-hunted-determined b x y = fixed x y
-
-pub measured-determined : (clock b : ℕ) {r q : Heard} → r ≡ measured clock b → q ≡ measured clock b → r ≡ q
-measured-determined clock b x y = fixed x y
-
-pub followed-determined : (p : Partial) (b : ℕ) {r q : Heard} → r ≡ followed p b → q ≡ followed p b → r ≡ q
-followed-determined p b x y = fixed x y
-
-pub hunting-determined : (h : Hearing) {r q : Bool} → r ≡ isHunting h → q ≡ isHunting h → r ≡ q
-hunting-determined h x y = fixed x y
-
-pub keep-determined : (e : Event) (b : ℕ) (body : List ℕ) {r q : List ℕ} → length body ≡ 254
-    → (length body ≡ 254 → r ≡ keep e b body) → (length body ≡ 254 → q ≡ keep e b body) → r ≡ q
-keep-determined e b body n x y = fixed (x n) (y n)
-
--- Keeping a byte leaves the body as long as it was.
-pub keep-length : (e : Event) (b : ℕ) (body : List ℕ) → length (keep e b body) ≡ length body
-keep-length Inside b body = refl
-keep-length (Kept at) b body = length-set body at b
-keep-length Skipped b body = refl
-keep-length (Alone s) b body = refl
-keep-length (Ended e) b body = refl
-keep-length TickHunting b body = refl
-keep-length TickInside b body = refl
-keep-length Aborted b body = refl
+pub sums-on-determined : (e : Event) (bad : ℕ) {r q : Sums} → r ≡ sumsOn e bad → q ≡ sumsOn e bad → r ≡ q
+sums-on-determined e bad = fixed

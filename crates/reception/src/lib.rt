@@ -1,16 +1,12 @@
-// Reception (document 01, section 4): a byte or a tick becomes an event. It knows nothing of sending; tally and counting use it alone.
-mod hearing;
+// Reception (document 01, section 4): what is said of an event, answered and handed up, and the run of bad sums. Which event a
+// byte or a tick is, is the crate `hearing`.
+mod said;
+mod sums;
 
-pub use hearing::End;
-pub use hearing::Event;
-pub use hearing::Heard;
-pub use hearing::Hearing;
-pub use hearing::Partial;
-pub use hearing::Single;
-pub use hearing::followed;
-pub use hearing::hear_byte;
-pub use hearing::hear_tick;
-pub use hearing::hunted;
-pub use hearing::is_hunting;
-pub use hearing::keep;
-pub use hearing::measured;
+pub use said::Awaited;
+pub use said::Reply;
+pub use said::Said;
+pub use said::is_awaited;
+pub use said::said_on;
+pub use sums::Sums;
+pub use sums::sums_on;

@@ -1,38 +1,20 @@
--- The report's promises fix their answers (document 01, section 12), and what is told of a report is all of it (section 7).
---     said-on-determined   what reception says of an event
---     sums-on-determined   the run of bad sums after an event
---     either-determined    the reset of a call
+-- What is told of a report is all of it (section 7).
 --     report-back          the report from what is told of it; report-told-injective: so no two reports are told alike
 -- Assumes nothing.
 use mathlib.Core.Path.{_≡_, refl, sym, ap, ap₂, _∙_}
 use mathlib.Core.List.{List, [], _∷_}
 use Prim.Native.Nat.{ℕ}
 use lib.ListN.{getD}
-use Rattle.frame.proofs.Theorems.{fixed}
-use Rattle.reception.specs.declared.hearing.Event.{Event}
-use Rattle.job.specs.declared.job.Job.{Job}
-use Rattle.job.specs.declared.report.Reset.{Reset}
-use Rattle.job.specs.declared.report.Reset.the-variants as reset
-use Rattle.job.specs.declared.report.Sending.{Sending}
-use Rattle.job.specs.declared.report.Sending.the-variants as sending
-use Rattle.job.specs.declared.report.Session.{Session}
-use Rattle.job.specs.declared.report.Session.the-variants as session
-use Rattle.report.specs.declared.report.Reception.{Reception}
-use Rattle.report.specs.declared.report.Reception.the-variants as reception
-use Rattle.report.specs.declared.report.Report.{Report}
-use Rattle.report.specs.declared.report.Said.{Said}
-use Rattle.report.specs.declared.report.Sums.{Sums}
-use Rattle.report.specs.Report.{saidOn, sumsOn, either}
+use Rattle.report.specs.declared.Reset.{Reset}
+use Rattle.report.specs.declared.Reset.the-variants as reset
+use Rattle.report.specs.declared.Sending.{Sending}
+use Rattle.report.specs.declared.Sending.the-variants as sending
+use Rattle.report.specs.declared.Session.{Session}
+use Rattle.report.specs.declared.Session.the-variants as session
+use Rattle.report.specs.declared.Reception.{Reception}
+use Rattle.report.specs.declared.Reception.the-variants as reception
+use Rattle.report.specs.declared.Report.{Report}
 use Rattle.report.specs.Told.{receptionCase, sendingCase, sendingValue, sessionCase, sessionValue, resetCase, reportTold}
-
-pub said-on-determined : (e : Event) (j : Job) {r q : Said} → r ≡ saidOn e j → q ≡ saidOn e j → r ≡ q
-said-on-determined e j = fixed
-
-pub sums-on-determined : (e : Event) (bad : ℕ) {r q : Sums} → r ≡ sumsOn e bad → q ≡ sumsOn e bad → r ≡ q
-sums-on-determined e bad = fixed
-
-pub either-determined : (sums sender : Reset) {r q : Reset} → r ≡ either sums sender → q ≡ either sums sender → r ≡ q
-either-determined sums sender = fixed
 
 -- ---- Section 7: the lists, and the case at a place in them, with its value
 

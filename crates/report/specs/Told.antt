@@ -2,15 +2,15 @@
 -- Assumes nothing.
 use Prim.Native.Nat.{ℕ}
 use mathlib.Core.List.{List, [], _∷_}
-use Rattle.job.specs.declared.report.Reset.{Reset}
-use Rattle.job.specs.declared.report.Reset.the-variants as reset
-use Rattle.job.specs.declared.report.Sending.{Sending}
-use Rattle.job.specs.declared.report.Sending.the-variants as sending
-use Rattle.job.specs.declared.report.Session.{Session}
-use Rattle.job.specs.declared.report.Session.the-variants as session
-use Rattle.report.specs.declared.report.Reception.{Reception}
-use Rattle.report.specs.declared.report.Reception.the-variants as reception
-use Rattle.report.specs.declared.report.Report.{Report}
+use Rattle.report.specs.declared.Reset.{Reset}
+use Rattle.report.specs.declared.Reset.the-variants as reset
+use Rattle.report.specs.declared.Sending.{Sending}
+use Rattle.report.specs.declared.Sending.the-variants as sending
+use Rattle.report.specs.declared.Session.{Session}
+use Rattle.report.specs.declared.Session.the-variants as session
+use Rattle.report.specs.declared.Reception.{Reception}
+use Rattle.report.specs.declared.Reception.the-variants as reception
+use Rattle.report.specs.declared.Report.{Report}
 
 -- Reception: nothing, skipped, the ends of section 4, stray response.
 abbrev pub receptionCase : Reception → ℕ

@@ -1,11 +1,53 @@
-// The report (document 01, section 7), and what reception says of an event, answers and hands up; the run of bad sums (section 4).
-mod report;
+// The report (document 01, section 7): its types. One record of four parts, each a case with its own data, and beside them the
+// numbers of bytes. No function: what each part says is decided where it happens, in `reception`, `job`, `sending` and `step`.
+use units::Millis;
 
-pub use report::Reception;
-pub use report::Reply;
-pub use report::Report;
-pub use report::Said;
-pub use report::Sums;
-pub use report::either;
-pub use report::said_on;
-pub use report::sums_on;
+pub enum Reception {
+    Nothing,
+    Skipped,
+    BadLength,
+    Frame,
+    Reserved,
+    BadSum,
+    Abort,
+    StrayResponse,
+}
+
+pub enum Sending {
+    Nothing,
+    Stray,
+    Due,
+    // The number of the copy put out.
+    Copy(u8),
+    BackingOff(Millis),
+    // With the number of copies.
+    Acknowledged(u8),
+    Failed(u8),
+    Abandoned,
+}
+
+pub enum Session {
+    Nothing,
+    Waiting,
+    // The verdicts, with the number of copies.
+    Response(u8),
+    NoResponse(u8),
+    NotSent(u8),
+    Abandoned,
+}
+
+pub enum Reset {
+    Nothing,
+    Sums,
+    Delivery,
+}
+
+pub struct Report {
+    pub reception: Reception,
+    pub sending: Sending,
+    pub session: Session,
+    pub reset: Reset,
+    // The numbers of bytes for the line and handed up.
+    pub line: u16,
+    pub up: u16,
+}

@@ -16,51 +16,51 @@ use lib.Bits.{bitXor}
 use lib.Dec.{ltb, eqb}
 use lib.ListN.{length, take, drop, set, getD, drop-of-length-le, take-append-drop, length-drop}
 use lib.Seq.{drop-cons, drop-drop, length-take-le, set-out}
-use Rattle.frame.specs.Pick.{pick}
-use Rattle.frame.proofs.Picks.{no}
-use Rattle.frame.specs.Bytes.{xorAll}
-use Rattle.reception.specs.declared.hearing.Event.{Event}
-use Rattle.reception.specs.declared.hearing.Event.the-variants.{Inside, Kept, Skipped, Alone, Ended}
-use Rattle.reception.specs.declared.hearing.End.the-variants.{BadLength}
-use Rattle.reception.specs.declared.hearing.Single.the-variants.{Ack, Nak, Can}
-use Rattle.reception.specs.declared.hearing.Heard.{Heard}
-use Rattle.reception.specs.declared.hearing.Hearing.{Hearing}
-use Rattle.reception.specs.declared.hearing.Hearing.the-variants.{Hunting, Head, Body}
-use Rattle.reception.specs.declared.hearing.Partial.{Partial}
+use Rattle.refusals.specs.Pick.{pick}
+use Rattle.refusals.proofs.Picks.{no}
+use Rattle.frame.specs.Bytes.{fold}
+use Rattle.hearing.specs.declared.hearing.Event.{Event}
+use Rattle.hearing.specs.declared.hearing.Event.the-variants.{Inside, Kept, Skipped, Alone, Ended}
+use Rattle.hearing.specs.declared.hearing.End.the-variants.{BadLength}
+use Rattle.hearing.specs.declared.hearing.Single.the-variants.{Ack, Nak, Can}
+use Rattle.hearing.specs.declared.hearing.Heard.{Heard}
+use Rattle.hearing.specs.declared.hearing.Hearing.{Hearing}
+use Rattle.hearing.specs.declared.hearing.Hearing.the-variants.{Hunting, Head, Body}
+use Rattle.hearing.specs.declared.hearing.Partial.{Partial}
 use Rattle.run.specs.declared.run.Reach.{Reach}
-use Rattle.reception.specs.Hearing.{heard, hunted, measured, begun, more, followed, heardByte, keep}
-use Rattle.run.specs.Run.{Far, newsByte, behind, hearFrom, far, gone, onFrom, Quiet, Onward, isSign, skipped, Noise, kept, walkedBy, picked}
+use Rattle.hearing.specs.Hearing.{heard, hunted, measured, begun, more, followed, hearByte, keep}
+use Rattle.run.specs.Run.{Far, hasNews, behind, hearFrom, far, gone, onFrom, Quiet, Onward, isSign, skipped, Noise, kept, walked, picked}
 
 -- ---- hearing at what is left
 module _ (f : Far) (i : ℕ) (bytes : List ℕ) where
   abbrev next : Heard
-  next = heardByte (getD bytes i 0) (f .heard .hearing)
+  next = hearByte (getD bytes i 0) (f .heard .hearing)
 
   pub hear-end : length bytes ≤ i → hearFrom f (drop i bytes) ≡ f
   unfolding hearFrom
   hear-end h = simp (drop-of-length-le bytes h)
 
-  pub hear-more : i < length bytes → newsByte (next .event) ≡ false
+  pub hear-more : i < length bytes → hasNews (next .event) ≡ false
       → hearFrom f (drop i bytes) ≡ hearFrom (behind next (f .body) (getD bytes i 0) (f .taken)) (drop (i + 1) bytes)
   unfolding hearFrom
   hear-more h e = rw (drop-cons bytes i 0 h) (simp (e, add-one))
 
 -- the next byte
-pub on-one : (f : Far) (bytes : List ℕ) → f .taken < length bytes → newsByte (f .heard .event) ≡ false
-    → onFrom f bytes ≡ onFrom (behind (heardByte (getD bytes (f .taken) 0) (f .heard .hearing)) (f .body) (getD bytes (f .taken) 0) (f .taken)) bytes
+pub on-one : (f : Far) (bytes : List ℕ) → f .taken < length bytes → hasNews (f .heard .event) ≡ false
+    → onFrom f bytes ≡ onFrom (behind (hearByte (getD bytes (f .taken) 0) (f .heard .hearing)) (f .body) (getD bytes (f .taken) 0) (f .taken)) bytes
 unfolding hearFrom
 on-one f bytes h e = simp e (rw (drop-cons bytes (f .taken) 0 h) (simp add-one))
 
-pub on-quiet : (f : Far) (bytes : List ℕ) → newsByte (f .heard .event) ≡ false → onFrom f bytes ≡ hearFrom f (drop (f .taken) bytes)
+pub on-quiet : (f : Far) (bytes : List ℕ) → hasNews (f .heard .event) ≡ false → onFrom f bytes ≡ hearFrom f (drop (f .taken) bytes)
 on-quiet f bytes e = simp e
 
 -- nothing is left to be heard
-over-by : (f : Far) (bytes : List ℕ) (x : Bool) → newsByte (f .heard .event) ≡ x → (newsByte (f .heard .event) ≡ false → f .taken ≡ length bytes) → onFrom f bytes ≡ f
+over-by : (f : Far) (bytes : List ℕ) (x : Bool) → hasNews (f .heard .event) ≡ x → (hasNews (f .heard .event) ≡ false → f .taken ≡ length bytes) → onFrom f bytes ≡ f
 over-by f bytes true q over = simp q
 over-by f bytes false q over = simp q (hear-end f (f .taken) bytes (omega (arith, over q)))
 
-pub on-over : (f : Far) (bytes : List ℕ) → (newsByte (f .heard .event) ≡ false → f .taken ≡ length bytes) → onFrom f bytes ≡ f
-on-over f bytes over = over-by f bytes (newsByte (f .heard .event)) refl over
+pub on-over : (f : Far) (bytes : List ℕ) → (hasNews (f .heard .event) ≡ false → f .taken ≡ length bytes) → onFrom f bytes ≡ f
+on-over f bytes over = over-by f bytes (hasNews (f .heard .event)) refl over
 
 -- ---- while hunting
 module _ where
@@ -89,7 +89,7 @@ module _ where
 pub hunted-keeps : (b : ℕ) (body : List ℕ) → keep (hunted b .event) b body ≡ body
 hunted-keeps b body = apart-keeps (eqb b 1) (eqb b 6) (eqb b 21) (eqb b 24) b body
 
-skip-quiet : (t : Bool) (e : Event) → newsByte e ≡ false → newsByte (pick t e Skipped) ≡ false
+skip-quiet : (t : Bool) (e : Event) → hasNews e ≡ false → hasNews (pick t e Skipped) ≡ false
 skip-quiet true e h = h
 skip-quiet false e h = refl
 
@@ -98,7 +98,7 @@ pub noise-more : (bytes : List ℕ) (e : Event) (i n : ℕ) (body : List ℕ) �
     → hearFrom (skipped e i n body) (drop n bytes) ≡ hearFrom (skipped e i (n + 1) body) (drop (n + 1) bytes)
 noise-more bytes e i n body le h q =
     let x : hunted (getD bytes n 0) ≡ heard Hunting Skipped = apart-noise (eqb (getD bytes n 0) 1) (eqb (getD bytes n 0) 6) (eqb (getD bytes n 0) 21) (eqb (getD bytes n 0) 24) q in
-    hear-more (skipped e i n body) n bytes h (ap (λ (y : Heard). newsByte (y .event)) x)
+    hear-more (skipped e i n body) n bytes h (ap (λ (y : Heard). hasNews (y .event)) x)
     ∙ ap (λ (y : Heard). hearFrom (behind y body (getD bytes n 0) n) (drop (n + 1) bytes)) x
     ∙ simp (ne-eqb (n + 1) i (λ z. omega (arith, z)))
 
@@ -112,7 +112,7 @@ module _ (bytes : List ℕ) (r : Reach) (c : Quiet bytes r) (e : r .hearing ≡ 
       ∙ ap (λ (h : Hearing). hearFrom (record { heard = heard h (r .event); body = body; taken = r .taken }) (drop (r .taken) bytes)) e
       ∙ (simp (eq-eqb (r .taken) (r .taken) refl) at (z .same (r .event) body))
 
-  still₁ : newsByte (pick (eqb n (r .taken)) (r .event) Skipped) ≡ false
+  still₁ : hasNews (pick (eqb n (r .taken)) (r .event) Skipped) ≡ false
   still₁ = skip-quiet (eqb n (r .taken)) (r .event) (c .quiet)
 
   -- noise, and the byte that ends it
@@ -153,7 +153,7 @@ headed-one bytes r clock c e x body =
     let b = getD bytes (r .taken) 0 in
     let s =
     on-one (far r body) bytes (c .there) (c .quiet)
-    ∙ ap (λ (v : Hearing). onFrom (behind (heardByte b v) body b (r .taken)) bytes) e
+    ∙ ap (λ (v : Hearing). onFrom (behind (hearByte b v) body b (r .taken)) bytes) e
     ∙ ap (λ (l : List ℕ). onFrom (record { heard = measured clock b; body = l; taken = r .taken + 1 }) bytes) (measured-keeps clock b body) in
     record { same = s ∙ ap (λ (q : Reach). onFrom (far q body) bytes) (sym x) }
 
@@ -161,7 +161,7 @@ headed-one bytes r clock c e x body =
 pub hunts-head : (bytes : List ℕ) (r : Reach) → Quiet bytes r → r .hearing ≡ Hunting → (n : ℕ) → Noise bytes (r .taken) n → (body : List ℕ)
     → n + 1 < length bytes → getD bytes n 0 ≡ 1 → {q : Reach} → q ≡ gone (measured 0 (getD bytes (n + 1) 0)) (n + 2) → Onward bytes r body q body
 hunts-head bytes r c e n z body h one x =
-    let start : Reach = gone (heard (Head 0) Inside) (n + 1) in
+    let unheard : Reach = gone (heard (Head 0) Inside) (n + 1) in
     let s = hunts-one bytes r c e n z body (omega arith) {q = start} (ap (λ (b : ℕ). gone (hunted b) (n + 1)) (sym one)) in
     let two : n + 2 ≡ n + 1 + 1 = omega arith in
     let t = headed-one bytes start 0 (record { there = h; quiet = refl }) refl (x ∙ ap (λ (k : ℕ). gone (measured 0 (getD bytes (n + 1) 0)) k) two) body in
@@ -209,7 +209,7 @@ on-by p s =
       clock = p .clock;
       size = p .size;
       at = p .at + length s;
-      sum = xorAll (p .sum) s;
+      sum = fold (p .sum) s;
       kind = picked (p .at) 0 s (p .kind);
       command = picked (p .at) 1 s (p .command);
     }
@@ -224,13 +224,13 @@ parts : (clock size sum : ℕ) {a a′ k k′ c c′ : ℕ} → a ≡ a′ → k
 parts clock size sum x y z = simp (x, y, z)
 
 -- what a walk makes of a half-received frame
-pub walked-is : (p : Partial) (s : List ℕ) → walkedBy p s ≡ on-by p s
-unfolding walkedBy xorAll
+pub walked-is : (p : Partial) (s : List ℕ) → walked p s ≡ on-by p s
+unfolding walked fold
 walked-is p [] = simp (picked-none (p .at) 0 (p .kind) (ltb 0 (p .at)), picked-none (p .at) 1 (p .command) (ltb 1 (p .at)), add-zero)
 walked-is p (b ∷ bs) =
     let n : p .at + 1 + length bs ≡ p .at + suc (length bs) = omega arith in
     walked-is (more p b) bs
-    ∙ parts (p .clock) (p .size) (xorAll (bitXor (p .sum) b) bs) n (kind-on (p .at) b (p .kind) bs) (command-on (p .at) b (p .command) bs)
+    ∙ parts (p .clock) (p .size) (fold (bitXor (p .sum) b) bs) n (kind-on (p .at) b (p .kind) bs) (command-on (p .at) b (p .command) bs)
 
 -- the event of the last byte
 unfoldable last : Partial → Event → List ℕ → Event
@@ -247,28 +247,28 @@ last-kept p e b (c ∷ bs) =
 -- body bytes at once
 walks : (p : Partial) (e : Event) (body : List ℕ) (i : ℕ) (s rest : List ℕ) → length s ≤ p .size - p .at
     → hearFrom (record { heard = heard (Body p) e; body = body; taken = i }) (s ++ rest)
-    ≡ hearFrom (record { heard = heard (Body (walkedBy p s)) (last p e s); body = kept body (p .at) s; taken = i + length s }) rest
-unfolding hearFrom walkedBy last kept
+    ≡ hearFrom (record { heard = heard (Body (walked p s)) (last p e s); body = kept body (p .at) s; taken = i + length s }) rest
+unfolding hearFrom walked last kept
 walks p e body i [] rest h =
     ap (λ (n : ℕ). hearFrom (record { heard = heard (Body p) e; body = body; taken = n }) rest) (sym (add-zero i))
 walks p e body i (b ∷ s) rest h =
     simp (lt-ltb (p .at) (p .size) (omega arith))
     (walks (more p b) (Kept (p .at)) (set body (p .at) b) (i + 1) s rest (omega arith)
-    ∙ ap (λ (n : ℕ). hearFrom (record { heard = heard (Body (walkedBy (more p b) s)) (last (more p b) (Kept (p .at)) s); body = kept (set body (p .at) b) (p .at + 1) s; taken = n }) rest)
+    ∙ ap (λ (n : ℕ). hearFrom (record { heard = heard (Body (walked (more p b) s)) (last (more p b) (Kept (p .at)) s); body = kept (set body (p .at) b) (p .at + 1) s; taken = n }) rest)
     (ap (λ (k : ℕ). k + length s) (add-one i) ∙ suc-add i (length s) ∙ sym (add-suc i (length s))))
 
-last-quiet : (p : Partial) (e : Event) (s : List ℕ) → newsByte e ≡ false → newsByte (last p e s) ≡ false
+last-quiet : (p : Partial) (e : Event) (s : List ℕ) → hasNews e ≡ false → hasNews (last p e s) ≡ false
 unfolding last
 last-quiet p e [] h = h
 last-quiet p e (b ∷ s) h = last-quiet (more p b) (Kept (p .at)) s refl
 
-last-of : (p : Partial) (e : Event) (s : List ℕ) → 0 < length s → last p e s ≡ Kept (walkedBy p s .at - 1)
+last-of : (p : Partial) (e : Event) (s : List ℕ) → 0 < length s → last p e s ≡ Kept (walked p s .at - 1)
 last-of p e [] h = absurd (not-suc-le-zero h)
 last-of p e (b ∷ s) h =
-    let n : p .at + length s ≡ walkedBy p (b ∷ s) .at - 1 = omega (arith, ap (λ (q : Partial). q .at) (walked-is p (b ∷ s))) in
+    let n : p .at + length s ≡ walked p (b ∷ s) .at - 1 = omega (arith, ap (λ (q : Partial). q .at) (walked-is p (b ∷ s))) in
     last-kept p e b s ∙ ap Kept n
 
-pub walked-at : (p : Partial) (s : List ℕ) {q : Partial} → q ≡ walkedBy p s → q .at ≡ p .at + length s
+pub walked-at : (p : Partial) (s : List ℕ) {q : Partial} → q ≡ walked p s → q .at ≡ p .at + length s
 walked-at p s x = ap (λ (t : Partial). t .at) (x ∙ walked-is p s)
 
 module _ (bytes : List ℕ) (r : Reach) (p : Partial) (c : Quiet bytes r) (e : r .hearing ≡ Body p) (n : ℕ) (small : n ≤ p .size - p .at) (fits : r .taken + n ≤ length bytes) where
@@ -281,11 +281,11 @@ module _ (bytes : List ℕ) (r : Reach) (p : Partial) (c : Quiet bytes r) (e : r
   pub part-length : length part ≡ n
   part-length = length-take-le n (drop i bytes) (simp length-drop (omega arith))
 
-  still : newsByte (r .event) ≡ false
+  still : hasNews (r .event) ≡ false
   still = c .quiet
 
   abbrev after : List ℕ → ℕ → Far
-  after body k = record { heard = heard (Body (walkedBy p part)) (last p (r .event) part); body = kept body (p .at) part; taken = i + k }
+  after body k = record { heard = heard (Body (walked p part)) (last p (r .event) part); body = kept body (p .at) part; taken = i + k }
 
   far-walked : (body : List ℕ) → onFrom (far r body) bytes ≡ onFrom (after body n) bytes
   far-walked body =
@@ -297,7 +297,7 @@ module _ (bytes : List ℕ) (r : Reach) (p : Partial) (c : Quiet bytes r) (e : r
       ∙ ap (λ (k : ℕ). hearFrom (after body k) (drop (i + n) bytes)) part-length
       ∙ sym (on-quiet (after body n) bytes (last-quiet p (r .event) part still))
 
-  module _ (body : List ℕ) {next : Partial} {body′ : List ℕ} (x : next ≡ walkedBy p part) (y : body′ ≡ kept body (p .at) part) where
+  module _ (body : List ℕ) {next : Partial} {body′ : List ℕ} (x : next ≡ walked p part) (y : body′ ≡ kept body (p .at) part) where
     at-next : next .at ≡ p .at + n
     at-next = ap (λ (q : Partial). q .at) (x ∙ walked-is p part) ∙ ap (λ (k : ℕ). p .at + k) part-length
 

@@ -1,21 +1,21 @@
 // A run of bytes, heard up to the first byte that has news (section 7): a loop over the bytes that breaks there. A turn of it
 // takes more than one byte where it can: noise and the byte that ends it, an 01 and its Length, or a body in one walk and its
 // checksum.
-use reception::Event;
-use reception::Heard;
-use reception::Hearing;
-use reception::Partial;
-use reception::followed;
-use reception::hunted;
-use reception::measured;
+use hearing::Event;
+use hearing::Heard;
+use hearing::Hearing;
+use hearing::Partial;
+use hearing::followed;
+use hearing::hunted;
+use hearing::measured;
 ghost use mathlib.Core.Path.{_≡_};
 ghost use mathlib.Core.List.{List};
 ghost use Prim.Native.Nat.{ℕ, _+_, _-_, _≤_, _<_, min};
 ghost use lib.ListN.{length};
-ghost use Rattle.frame.specs.Bytes.{xorAll};
+ghost use Rattle.frame.specs.Bytes.{fold};
 ghost use Rattle.run.specs.Run as spec;
-ghost use Rattle.run.specs.Run.{Reached, Noise, Quiet, Onward};
-ghost use Rattle.reception.specs.declared.hearing.Hearing.the-variants as hearing;
+ghost use Rattle.run.specs.Run.{HearRun, Noise, Quiet, Onward};
+ghost use Rattle.hearing.specs.declared.hearing.Hearing.the-variants as hearing;
 
 // How far a run of bytes was heard: the hearing after it, the last event, and how many bytes were taken.
 pub struct Reach {
@@ -101,7 +101,7 @@ fn fit(n: usize, at: u8) -> usize
 
 // Body bytes at once: each is kept at its place and folded into the sum.
 fn walk(sum: u8, s: &[u8], at: u8, body: &mut [u8; 254]) -> u8
-    ensures { λ r. ⌜ (r ≡ xorAll sum (now (s .entry))) × (length (now (body .entry)) ≡ 254 → now (body .exit) ≡ spec.kept (now (body .entry)) at (now (s .entry))) × (length (now (body .exit)) ≡ length (now (body .entry))) ⌝ }
+    ensures { λ r. ⌜ (r ≡ fold sum (now (s .entry))) × (length (now (body .entry)) ≡ 254 → now (body .exit) ≡ spec.kept (now (body .entry)) at (now (s .entry))) × (length (now (body .exit)) ≡ length (now (body .entry))) ⌝ }
 {
     let n = fit(s.len(), at);
     let first = at as usize;
@@ -119,7 +119,7 @@ fn walk(sum: u8, s: &[u8], at: u8, body: &mut [u8; 254]) -> u8
 // A half-received frame with these body bytes more.
 fn walked(p: Partial, s: &[u8], body: &mut [u8; 254]) -> Partial
     requires { ⌜ length (now s) ≤ p .size - p .at ⌝ }
-    ensures { λ r. ⌜ (r ≡ spec.walkedBy p (now (s .entry))) × (length (now (body .entry)) ≡ 254 → now (body .exit) ≡ spec.kept (now (body .entry)) (p .at) (now (s .entry))) × (length (now (body .exit)) ≡ length (now (body .entry))) ⌝ }
+    ensures { λ r. ⌜ (r ≡ spec.walked p (now (s .entry))) × (length (now (body .entry)) ≡ 254 → now (body .exit) ≡ spec.kept (now (body .entry)) (p .at) (now (s .entry))) × (length (now (body .exit)) ≡ length (now (body .entry))) ⌝ }
 {
     let kind = picked(p.at, 0, s, p.kind);
     let command = picked(p.at, 1, s, p.command);
@@ -216,7 +216,7 @@ fn onward(r: Reach, bytes: &[u8], body: &mut [u8; 254]) -> Reach
 
 // Whether a byte that was heard so has news: a single byte or an end.
 fn has_news(event: Event) -> bool
-    ensures { λ r. ⌜ r ≡ spec.newsByte event ⌝ }
+    ensures { λ r. ⌜ r ≡ spec.hasNews event ⌝ }
 {
     match event {
         Event::Inside => false,
@@ -232,7 +232,7 @@ fn has_news(event: Event) -> bool
 
 // The bytes heard, up to the first that has news; body bytes are kept.
 pub fn hear_run(before: Hearing, bytes: &[u8], body: &mut [u8; 254]) -> Reach
-    ensures { λ r. ⌜ (length (now (body .entry)) ≡ 254 → Reached before (now (bytes .entry)) (now (body .entry)) r (now (body .exit))) ⌝ }
+    ensures { λ r. ⌜ (length (now (body .entry)) ≡ 254 → HearRun before (now (bytes .entry)) (now (body .entry)) r (now (body .exit))) ⌝ }
 {
     let mut reach = Reach {
         hearing: before,

@@ -2,13 +2,13 @@
 -- Assumes nothing.
 use mathlib.Core.Path.{refl}
 use mathlib.Core.List.{[]}
-use Rattle.frame.specs.Bytes.{xorAll}
+use Rattle.frame.specs.Bytes.{fold}
 use Rattle.frame.specs.Frame.{frameOf}
-use Rattle.job.specs.Rules.{base}
-use Rattle.link.specs.State.{noBody, noFrame}
-use Rattle.link.specs.Step.{byteOut, tickOut, openOut}
+use Rattle.rules.specs.Rules.{base}
+use Rattle.link.specs.Link.{noBody, noFrame}
+use Rattle.link.specs.Out.{byteOut, tickOut, openOut}
 use Rattle.job.specs.declared.job.Asking.the-variants.{Plain, Asks}
-use Rattle.history.specs.Calls.{send, session, outOf}
+use Rattle.history.specs.Perform.{send, session, outOf}
 use Rattle.history.specs.History.{after}
 use Rattle.history.specs.Watch.{failed, noResponse}
 use Rattle.history.specs.Demand3.{sendBound, sessionBound}
@@ -16,9 +16,9 @@ use Rattle.scenes.specs.Table.{frame07}
 use Rattle.scenes.specs.Longest.{before, longestSend, longestSession, Reaches}
 
 pub send07-reaches : Reaches base before (send 0 7 []) Plain (longestSend base 5) frame07 (failed 4) sendBound
-unfolding byteOut tickOut openOut frameOf xorAll noBody noFrame
+unfolding byteOut tickOut openOut frameOf fold noBody noFrame
 send07-reaches = record { gave = outOf base (after base before) (send 0 7 []); accepted = refl; verdict = refl }
 
 pub session07-reaches : Reaches base before (session 7 []) (Asks 7) (longestSession base 5) frame07 (noResponse 4) sessionBound
-unfolding byteOut tickOut openOut frameOf xorAll noBody noFrame
+unfolding byteOut tickOut openOut frameOf fold noBody noFrame
 session07-reaches = record { gave = outOf base (after base before) (session 7 []); accepted = refl; verdict = refl }

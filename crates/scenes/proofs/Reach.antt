@@ -11,37 +11,39 @@ use lib.Dec.{eqb}
 use lib.ListN.{length}
 use lib.Seq.{take-append-seam}
 use borrow.Author.Tests.{lt-ltb, le-ltb, ne-eqb}
-use Rattle.frame.specs.Pick.{pick}
+use Rattle.refusals.specs.Pick.{pick}
 use Rattle.frame.specs.Bytes.{over}
 use Rattle.frame.specs.Frame.{frameOf}
-use Rattle.job.specs.Rules.{Rules, time, base}
+use Rattle.rules.specs.Rules.{Rules, time, base}
 use Rattle.job.specs.Job.{goesOn, still, putOut, fail}
 use Rattle.job.specs.Ticks.{onTick}
-use Rattle.report.specs.Report.{saidOn, sumsOn}
-use Rattle.link.specs.State.{noBody, noFrame}
-use Rattle.step.specs.Step.{outcome, decision}
-use Rattle.link.specs.Step.{Out, out, byteOut, tickOut, openOut}
-use Rattle.reception.specs.declared.hearing.Hearing.{Hearing}
-use Rattle.reception.specs.declared.hearing.Hearing.the-variants.{Hunting, Head}
-use Rattle.reception.specs.declared.hearing.Event.{Event}
-use Rattle.reception.specs.declared.hearing.Event.the-variants.{TickHunting, TickInside, Aborted}
+use Rattle.reception.specs.Said.{saidOn}
+use Rattle.link.specs.Link.{noBody, noFrame}
+use Rattle.step.specs.Decide.{decided}
+use Rattle.link.specs.Out.{Out, out, byteOut, tickOut, openOut}
+use Rattle.hearing.specs.declared.hearing.Hearing.{Hearing}
+use Rattle.hearing.specs.declared.hearing.Hearing.the-variants.{Hunting, Head}
+use Rattle.hearing.specs.declared.hearing.Event.{Event}
+use Rattle.hearing.specs.declared.hearing.Event.the-variants.{TickHunting, TickInside, Aborted}
 use Rattle.job.specs.declared.job.Act.{Act}
 use Rattle.job.specs.declared.job.Asking.{Asking}
 use Rattle.job.specs.declared.job.Asking.the-variants.{Plain, Asks}
 use Rattle.job.specs.declared.job.Job.{Job}
 use Rattle.job.specs.declared.job.Job.the-variants.{Due, Waiting, BackingOff, Awaiting}
-use Rattle.job.specs.declared.report.Reset.the-variants as reset
-use Rattle.job.specs.declared.report.Sending.{Sending}
-use Rattle.job.specs.declared.report.Sending.the-variants as sending
-use Rattle.job.specs.declared.report.Session.the-variants as session
-use Rattle.link.specs.declared.state.Link.{Link}
-use Rattle.history.specs.Calls.{byte, tick, send, session as sessionCall, Call}
+use Rattle.report.specs.declared.Reset.the-variants as reset
+use Rattle.report.specs.declared.Sending.{Sending}
+use Rattle.report.specs.declared.Sending.the-variants as sending
+use Rattle.report.specs.declared.Session.the-variants as session
+use Rattle.link.specs.declared.link.Link.{Link}
+use Rattle.history.specs.Perform.{byte, tick, send, session as sessionCall, Call}
 use Rattle.history.specs.History.{after}
 use Rattle.history.specs.Watch.{Verdict, failed, noResponse, Says, none, says, sendVerdict, verdictIn, verdictOf, Watch, going, gone, ended, add, onward, watch}
 use Rattle.history.specs.Demand3.{Kept, EverySend, EverySession, sendBound, sessionBound}
 use Rattle.history.proofs.Job as jobs
 use Rattle.scenes.specs.Scene.{lent, silence}
 use Rattle.scenes.specs.Longest.{frameBegins, before, round, toFourth, longestSend, longestSession, Reaches}
+use Rattle.reception.specs.Sums.{sumsOn}
+use Rattle.sending.specs.Events.{awaitedBy}
 
 add-none : (w : Watch) → add 0 [] w ≡ w
 add-none (going t l) = ap (λ (x : ℕ). going x l) (zero-add t)
@@ -63,7 +65,7 @@ module _ (R : Rules) (a : Asking) (f : List ℕ) where
 
   -- what a tick gives on it
   abbrev gives : Hearing → Event → Job → Act → Out
-  gives h e j x = out noBody (over f noFrame) (decision h (length f) (outcome (saidOn e j) (sumsOn e 0) x))
+  gives h e j x = out noBody (over f noFrame) h (length f) (decided (saidOn e (awaitedBy j)) (sumsOn e 0) x)
 
   -- the calls h take t ticks and put out these bytes, with no verdict before their end; then the watch is w, over the calls after them
   record Leads (l : Link) (h : List Call) (w : List Call → Watch) (t : ℕ) (line : List ℕ) : Type 0 where

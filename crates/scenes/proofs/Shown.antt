@@ -8,8 +8,8 @@ use native.Mathlib.Omega.{arith}
 use lib.ListN.{length}
 use lib.Dec.{eqb}
 use borrow.Author.Tests.{ne-eqb}
-use Rattle.frame.specs.Pick.{pick}
-use Rattle.link.specs.Step.{Out, news}
+use Rattle.refusals.specs.Pick.{pick}
+use Rattle.link.specs.Out.{Out, news}
 use Rattle.history.proofs.Reception.{pick-ok}
 use Rattle.scenes.specs.Scene.{shows}
 

@@ -7,15 +7,15 @@ use lib.ListN.{length}
 use Rattle.frame.specs.Frame.{frameOf}
 use Rattle.frame.specs.Builder as builder
 use Rattle.frame.specs.declared.builder.Built.{Built}
-use Rattle.reading.specs.Reader.{readingOf}
+use Rattle.reading.specs.Reader.{read}
 use Rattle.reading.specs.declared.reader.Reading.{Reading}
-use Rattle.units.specs.Units.{convertedOf}
+use Rattle.units.specs.Units.{ticksOf}
 use Rattle.units.specs.declared.Millis.{Millis}
-use Rattle.job.specs.Rules.{base}
+use Rattle.rules.specs.Rules.{base}
 use Rattle.nodes.specs.Nodes as nodes
 use Rattle.timeouts.specs.Timeouts.{ticksFor, setOf}
 use Rattle.nodes.specs.declared.NodeList.{NodeList}
-use Rattle.history.specs.Calls.{Call}
+use Rattle.history.specs.Perform.{Call}
 use Rattle.scenes.specs.Scene.{Seen, seen}
 
 pub data Question : Type 0 where
@@ -43,9 +43,9 @@ abbrev pub answerTo : Question → Answer
 answerTo (build kind command ps lent) =
     built (builder.builtOf kind (length ps) (length lent)) (builder.leftBy (builder.builtOf kind (length ps) (length lent)) (frameOf kind command ps) lent)
 answerTo (setTimeouts rxack rxbyte lent) =
-    built (setOf (convertedOf rxack) (convertedOf rxbyte) (length lent))
-    (builder.leftBy (setOf (convertedOf rxack) (convertedOf rxbyte) (length lent)) (frameOf 0 6 (ticksFor (convertedOf rxack) (convertedOf rxbyte))) lent)
-answerTo (read bytes) = reading (readingOf bytes)
+    built (setOf (ticksOf rxack) (ticksOf rxbyte) (length lent))
+    (builder.leftBy (setOf (ticksOf rxack) (ticksOf rxbyte) (length lent)) (frameOf 0 6 (ticksFor (ticksOf rxack) (ticksOf rxbyte))) lent)
+answerTo (read bytes) = reading (read bytes)
 answerTo (list body lent) =
     listed (nodes.nodeListOf body (length lent)) (nodes.leftBy (nodes.nodeListOf body (length lent)) (nodes.nodesOf body) lent)
 answerTo (play calls) = shows (seen base calls)
@@ -59,6 +59,6 @@ abbrev pub Holds : Example → Type 0
 Holds e = answerTo (e .question) ≡ e .expected
 
 -- every row of a table
-abbrev pub All : List Example → Type 0
-All [] = Unit {0}
-All (e ∷ es) = Holds e × All es
+abbrev pub AllHold : List Example → Type 0
+AllHold [] = Unit {0}
+AllHold (e ∷ es) = Holds e × AllHold es

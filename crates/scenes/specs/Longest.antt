@@ -3,10 +3,10 @@
 use Prim.Native.Nat.{ℕ, _-_}
 use mathlib.Core.Path.{_≡_}
 use mathlib.Core.List.{List, [], _∷_, _++_}
-use Rattle.job.specs.Rules.{Rules, time}
-use Rattle.link.specs.Step.{Out}
+use Rattle.rules.specs.Rules.{Rules, time}
+use Rattle.link.specs.Out.{Out}
 use Rattle.job.specs.declared.job.Asking.{Asking}
-use Rattle.history.specs.Calls.{What, byte, Call, took, perform}
+use Rattle.history.specs.Perform.{What, byte, Call, took, perform}
 use Rattle.history.specs.History.{after}
 use Rattle.history.specs.Watch.{Verdict, ended, watched}
 use Rattle.scenes.specs.Scene.{lent, silence}

@@ -5,18 +5,18 @@ use mathlib.Core.Bool.{Bool, true, false}
 use mathlib.Core.List.{List, [], _∷_}
 use lib.Dec.{eqb}
 use lib.ListN.{length}
-use Rattle.frame.specs.Pick.{pick}
-use Rattle.frame.specs.declared.refusal.Refusal.{Refusal}
-use Rattle.job.specs.Rules.{Rules}
-use Rattle.link.specs.State.{freshLink}
-use Rattle.link.specs.Step.{Out, news}
-use Rattle.report.specs.declared.report.Reception.{Reception}
-use Rattle.job.specs.declared.report.Reset.{Reset}
-use Rattle.job.specs.declared.report.Sending.{Sending}
-use Rattle.job.specs.declared.report.Session.{Session}
-use Rattle.link.specs.declared.state.Link.{Link}
-use Rattle.history.specs.Calls.{What, tick, Call, Done, refused, took, perform}
-use Rattle.history.specs.History.{next, ticksOf, accepted}
+use Rattle.refusals.specs.Pick.{pick}
+use Rattle.refusals.specs.declared.Refusal.{Refusal}
+use Rattle.rules.specs.Rules.{Rules}
+use Rattle.link.specs.Link.{freshLink}
+use Rattle.link.specs.Out.{Out, news}
+use Rattle.report.specs.declared.Reception.{Reception}
+use Rattle.report.specs.declared.Reset.{Reset}
+use Rattle.report.specs.declared.Sending.{Sending}
+use Rattle.report.specs.declared.Session.{Session}
+use Rattle.link.specs.declared.link.Link.{Link}
+use Rattle.history.specs.Perform.{What, tick, Call, Done, refused, took, perform}
+use Rattle.history.specs.History.{next, oneTick, accepted}
 
 -- a call with 258 bytes lent for the line and 254 for the frame handed up
 abbrev pub lent : What → Call
@@ -44,8 +44,8 @@ seenDone t (took o) rest = pick (shows o) (said t (o .reception) (o .sending) (o
 abbrev pub seenFrom : Rules → Link → ℕ → List Call → List Seen
 seenFrom R l t [] = []
 seenFrom R l t (c ∷ h) =
-    seenDone (t + accepted (ticksOf (c .what)) (perform R l c)) (perform R l c)
-    (seenFrom R (next l (perform R l c)) (t + accepted (ticksOf (c .what)) (perform R l c)) h)
+    seenDone (t + accepted (oneTick (c .what)) (perform R l c)) (perform R l c)
+    (seenFrom R (next l (perform R l c)) (t + accepted (oneTick (c .what)) (perform R l c)) h)
 
 -- from opening
 abbrev pub seen : Rules → List Call → List Seen

@@ -4,17 +4,17 @@ use Prim.Native.Nat.{ℕ}
 use mathlib.Core.List.{List, [], _∷_, _++_}
 use lib.ListN.{replicate}
 use Rattle.frame.specs.declared.builder.Built.the-variants.{Frame}
-use Rattle.frame.specs.declared.refusal.Refusal.the-variants as refusal
+use Rattle.refusals.specs.declared.Refusal.the-variants as refusal
 use Rattle.reading.specs.declared.reader.Reading.the-variants.{Refused}
-use Rattle.report.specs.declared.report.Reception.{Reception}
-use Rattle.report.specs.declared.report.Reception.the-variants as reception
-use Rattle.job.specs.declared.report.Reset.{Reset}
-use Rattle.job.specs.declared.report.Reset.the-variants as reset
-use Rattle.job.specs.declared.report.Sending.{Sending}
-use Rattle.job.specs.declared.report.Sending.the-variants as sending
-use Rattle.job.specs.declared.report.Session.the-variants as session
+use Rattle.report.specs.declared.Reception.{Reception}
+use Rattle.report.specs.declared.Reception.the-variants as reception
+use Rattle.report.specs.declared.Reset.{Reset}
+use Rattle.report.specs.declared.Reset.the-variants as reset
+use Rattle.report.specs.declared.Sending.{Sending}
+use Rattle.report.specs.declared.Sending.the-variants as sending
+use Rattle.report.specs.declared.Session.the-variants as session
 use Rattle.nodes.specs.declared.NodeList.the-variants as nodes
-use Rattle.history.specs.Calls.{Call, byte, send}
+use Rattle.history.specs.Perform.{Call, byte, send}
 use Rattle.scenes.specs.Scene.{lent, silence, Seen, said}
 use Rattle.scenes.specs.Example.{build, setTimeouts, read, list, play, built, reading, listed, shows, Example}
 
@@ -27,15 +27,15 @@ abbrev pub send07 : Call
 send07 = lent (send 0x00 0x07 [])
 
 -- one byte received
-abbrev pub received : ℕ → Call
-received b = lent (byte b)
+abbrev pub given : ℕ → Call
+given b = lent (byte b)
 
 -- a frame received, byte by byte: with a wrong checksum, with the right one
 abbrev pub bad : List Call
-bad = received 0x01 ∷ received 0x03 ∷ received 0x00 ∷ received 0x07 ∷ received 0xFA ∷ []
+bad = given 0x01 ∷ given 0x03 ∷ given 0x00 ∷ given 0x07 ∷ given 0xFA ∷ []
 
 abbrev pub good : List Call
-good = received 0x01 ∷ received 0x03 ∷ received 0x00 ∷ received 0x07 ∷ received 0xFB ∷ []
+good = given 0x01 ∷ given 0x03 ∷ given 0x00 ∷ given 0x07 ∷ given 0xFB ∷ []
 
 -- after so many ticks the sending part says this, with these bytes, and no other part says anything
 abbrev pub says : ℕ → Sending → List ℕ → Seen
@@ -101,7 +101,7 @@ is-kind = record { question = read (0x01 ∷ 0x03 ∷ 0x02 ∷ 0x07 ∷ 0xF9 ∷
 unfoldable pub ack-in-time : Example
 ack-in-time =
     record {
-      question = play (send07 ∷ (silence 1_599 ++ (received 0x06 ∷ [])));
+      question = play (send07 ∷ (silence 1_599 ++ (given 0x06 ∷ [])));
       expected = shows (copy 1 0 ∷ says 1_599 (sending.Acknowledged 1) [] ∷ []);
     }
 
@@ -123,7 +123,7 @@ silent-line =
 
 -- 15 straight after every copy: copies at 0, 100, 1,200, 3,300, failed at 3,300.
 abbrev pub told : List Call → List Call
-told rest = received 0x15 ∷ rest
+told rest = given 0x15 ∷ rest
 
 unfoldable pub told-each-time : Example
 told-each-time =
@@ -136,7 +136,7 @@ told-each-time =
 unfoldable pub due-in-a-frame : Example
 due-in-a-frame =
     record {
-      question = play (received 0x01 ∷ send07 ∷ silence 1_501);
+      question = play (given 0x01 ∷ send07 ∷ silence 1_501);
       expected =
           shows
           (says 0 sending.Due []

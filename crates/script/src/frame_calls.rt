@@ -11,7 +11,7 @@ use crate::printing::put_named;
 use crate::printing::put_refused;
 use crate::verb::FrameVerb;
 use frame::Built;
-use frame::Refusal;
+use refusals::Refusal;
 use reading::Reading;
 
 // The line of a call without a lent buffer that was refused.

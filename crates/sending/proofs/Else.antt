@@ -3,30 +3,31 @@
 -- Assumes nothing.
 use Prim.Native.Nat.{ℕ}
 use mathlib.Core.Path.{_≡_, refl}
-use mathlib.Core.Bool.{true, false}
+use mathlib.Core.Bool.{true}
 use mathlib.Core.List.{[], _∷_}
 use types.Run.{OneOf, miss}
 use denote.Enum.Declared.{tagOf}
-use Rattle.reception.proofs.hearing.Single.{the-type as single}
-use Rattle.reception.proofs.hearing.End.{the-type as end}
-use Rattle.reception.proofs.hearing.Event.{the-type as event}
-use Rattle.reception.specs.declared.hearing.Single.{Single}
-use Rattle.reception.specs.declared.hearing.Single.the-variants.{Ack, Nak, Can}
-use Rattle.reception.specs.declared.hearing.End.{End}
-use Rattle.reception.specs.declared.hearing.End.the-variants.{BadLength, BadSum, Reserved, Request, Response}
-use Rattle.reception.specs.declared.hearing.Event.{Event}
-use Rattle.reception.specs.declared.hearing.Event.the-variants.{Inside, Kept, Skipped, Alone, Ended, TickHunting, TickInside, Aborted}
+use Rattle.hearing.proofs.hearing.Single.{the-type as single}
+use Rattle.hearing.proofs.hearing.End.{the-type as end}
+use Rattle.hearing.proofs.hearing.Event.{the-type as event}
+use Rattle.hearing.specs.declared.hearing.Single.{Single}
+use Rattle.hearing.specs.declared.hearing.Single.the-variants.{Ack, Nak, Can}
+use Rattle.hearing.specs.declared.hearing.End.{End}
+use Rattle.hearing.specs.declared.hearing.End.the-variants.{BadLength, BadSum, Reserved, Request, Response}
+use Rattle.hearing.specs.declared.hearing.Event.{Event}
+use Rattle.hearing.specs.declared.hearing.Event.the-variants.{Inside, Kept, Skipped, Alone, Ended, TickHunting, TickInside, Aborted}
 use Rattle.job.proofs.job.Job.{the-type as job}
-use Rattle.job.specs.Rules.{base, told}
+use Rattle.rules.specs.Rules.{base, told}
 use Rattle.job.specs.Job.{goesOn, still, lose}
 use Rattle.job.specs.declared.job.Asking.{Asking}
 use Rattle.job.specs.declared.job.Job.{Job}
 use Rattle.job.specs.declared.job.Job.the-variants.{Idle, Due, Waiting, BackingOff, Awaiting}
-use Rattle.job.specs.declared.report.Sending.the-variants.{Stray}
-use Rattle.sending.specs.Events.{answered, onSingle, release, awaits, onEnd, act}
+use Rattle.reception.specs.declared.said.Awaited.the-variants as awaited
+use Rattle.report.specs.declared.Sending.the-variants.{Stray}
+use Rattle.sending.specs.Events.{onAnswer, onSingle, release, awaitedBy, onEnd, onEvent}
 
 -- no 06 while waiting: the copy is lost
-pub no-ack : (s : Single) (a : Asking) (n : ℕ) → OneOf (1 ∷ 2 ∷ []) (tagOf single s) → lose base told true a n ≡ answered base s a n
+pub no-ack : (s : Single) (a : Asking) (n : ℕ) → OneOf (1 ∷ 2 ∷ []) (tagOf single s) → lose base told true a n ≡ onAnswer base s a n
 no-ack Ack a n o = absurd (miss (1 ∷ 2 ∷ []) 0 tt o)
 no-ack Nak a n o = refl
 no-ack Can a n o = refl
@@ -47,13 +48,13 @@ none-due (Waiting a n e) o = refl
 none-due (BackingOff a n l) o = refl
 none-due (Awaiting c n e) o = refl
 
--- no session awaits its response: none is the awaited one
-pub none-awaits : (wanted : ℕ) (j : Job) → OneOf (0 ∷ 1 ∷ 2 ∷ 3 ∷ []) (tagOf job j) → false ≡ awaits wanted j
-none-awaits wanted Idle o = refl
-none-awaits wanted (Due a n) o = refl
-none-awaits wanted (Waiting a n e) o = refl
-none-awaits wanted (BackingOff a n l) o = refl
-none-awaits wanted (Awaiting c n e) o = absurd (miss (0 ∷ 1 ∷ 2 ∷ 3 ∷ []) 4 tt o)
+-- no session is behind its ACK: nothing is awaited
+pub none-awaited : (j : Job) → OneOf (0 ∷ 1 ∷ 2 ∷ 3 ∷ []) (tagOf job j) → awaited.Nothing ≡ awaitedBy j
+none-awaited Idle o = refl
+none-awaited (Due a n) o = refl
+none-awaited (Waiting a n e) o = refl
+none-awaited (BackingOff a n l) o = refl
+none-awaited (Awaiting c n e) o = absurd (miss (0 ∷ 1 ∷ 2 ∷ 3 ∷ []) 4 tt o)
 
 -- no response: an end like the rest
 pub no-response : (e : End) (j : Job) → OneOf (0 ∷ 1 ∷ 2 ∷ 3 ∷ []) (tagOf end e) → release j ≡ onEnd e j
@@ -64,7 +65,7 @@ no-response (Request size) j o = refl
 no-response (Response size command) j o = absurd (miss (0 ∷ 1 ∷ 2 ∷ 3 ∷ []) 4 tt o)
 
 -- no single byte, end or tick: the job goes on
-pub no-news : (size : ℕ) (e : Event) (j : Job) → OneOf (0 ∷ 1 ∷ 2 ∷ []) (tagOf event e) → still j ≡ act base size e j
+pub no-news : (size : ℕ) (e : Event) (j : Job) → OneOf (0 ∷ 1 ∷ 2 ∷ []) (tagOf event e) → still j ≡ onEvent base size e j
 no-news size Inside j o = refl
 no-news size (Kept at) j o = refl
 no-news size Skipped j o = refl

@@ -1,20 +1,25 @@
 -- Sending's promises fix their answers (document 01, section 12).
 --     on-event-determined     what the open send or session does on an event
+--     awaited-by-determined   what it waits to receive
 --     awaits-determined       whether a response is the awaited one
 --     on-restart-determined   what a restart abandons
 -- Assumes nothing.
 use mathlib.Core.Path.{_≡_}
 use mathlib.Core.Bool.{Bool}
 use Prim.Native.Nat.{ℕ}
-use Rattle.frame.proofs.Theorems.{fixed}
-use Rattle.reception.specs.declared.hearing.Event.{Event}
+use Rattle.refusals.proofs.Theorems.{fixed}
+use Rattle.hearing.specs.declared.hearing.Event.{Event}
+use Rattle.reception.specs.declared.said.Awaited.{Awaited}
 use Rattle.job.specs.declared.job.Job.{Job}
 use Rattle.job.specs.declared.job.Act.{Act}
-use Rattle.job.specs.Rules.{base}
-use Rattle.sending.specs.Events.{act, awaits, onRestart}
+use Rattle.rules.specs.Rules.{base}
+use Rattle.sending.specs.Events.{onEvent, awaitedBy, awaits, onRestart}
 
-pub on-event-determined : (size : ℕ) (e : Event) (j : Job) {r q : Act} → r ≡ act base size e j → q ≡ act base size e j → r ≡ q
+pub on-event-determined : (size : ℕ) (e : Event) (j : Job) {r q : Act} → r ≡ onEvent base size e j → q ≡ onEvent base size e j → r ≡ q
 on-event-determined size e j = fixed
+
+pub awaited-by-determined : (j : Job) {r q : Awaited} → r ≡ awaitedBy j → q ≡ awaitedBy j → r ≡ q
+awaited-by-determined j = fixed
 
 pub awaits-determined : (wanted : ℕ) (j : Job) {r q : Bool} → r ≡ awaits wanted j → q ≡ awaits wanted j → r ≡ q
 awaits-determined wanted j = fixed

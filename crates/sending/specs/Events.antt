@@ -2,22 +2,24 @@
 -- Assumes nothing.
 use Prim.Native.Nat.{ℕ}
 use mathlib.Core.Bool.{Bool, true, false}
-use lib.Dec.{eqb}
-use Rattle.frame.specs.Pick.{pick}
-use Rattle.job.specs.Rules.{Rules, told}
+use Rattle.refusals.specs.Pick.{pick}
+use Rattle.rules.specs.Rules.{Rules, told}
 use Rattle.job.specs.Job.{goesOn, still, putOut, lose}
 use Rattle.job.specs.Ticks.{onTick, onAbort}
-use Rattle.reception.specs.declared.hearing.Single.{Single}
-use Rattle.reception.specs.declared.hearing.Single.the-variants.{Ack, Nak, Can}
-use Rattle.reception.specs.declared.hearing.End.{End}
-use Rattle.reception.specs.declared.hearing.End.the-variants as end
-use Rattle.reception.specs.declared.hearing.Event.{Event}
-use Rattle.reception.specs.declared.hearing.Event.the-variants.{Inside, Kept, Skipped, Alone, Ended, TickHunting, TickInside, Aborted}
-use Rattle.job.specs.declared.report.Sending.{Sending}
-use Rattle.job.specs.declared.report.Sending.the-variants as sending
-use Rattle.job.specs.declared.report.Session.{Session}
-use Rattle.job.specs.declared.report.Session.the-variants as session
-use Rattle.job.specs.declared.report.Reset.the-variants as reset
+use Rattle.hearing.specs.declared.hearing.Single.{Single}
+use Rattle.hearing.specs.declared.hearing.Single.the-variants.{Ack, Nak, Can}
+use Rattle.hearing.specs.declared.hearing.End.{End}
+use Rattle.hearing.specs.declared.hearing.End.the-variants as end
+use Rattle.hearing.specs.declared.hearing.Event.{Event}
+use Rattle.hearing.specs.declared.hearing.Event.the-variants.{Inside, Kept, Skipped, Alone, Ended, TickHunting, TickInside, Aborted}
+use Rattle.reception.specs.Said.{isAwaited}
+use Rattle.reception.specs.declared.said.Awaited.{Awaited}
+use Rattle.reception.specs.declared.said.Awaited.the-variants as awaited
+use Rattle.report.specs.declared.Sending.{Sending}
+use Rattle.report.specs.declared.Sending.the-variants as sending
+use Rattle.report.specs.declared.Session.{Session}
+use Rattle.report.specs.declared.Session.the-variants as session
+use Rattle.report.specs.declared.Reset.the-variants as reset
 use Rattle.job.specs.declared.job.Asking.{Asking}
 use Rattle.job.specs.declared.job.Asking.the-variants.{Plain, Asks}
 use Rattle.job.specs.declared.job.Job.{Job}
@@ -31,16 +33,16 @@ acknowledge (Asks c) n =
     record { job = Awaiting c n 0; sending = sending.Acknowledged n; session = session.Waiting; reset = reset.Nothing; copy = false }
 
 -- 06, 15 or 18 while waiting; such a byte comes while hunting
-abbrev pub answered : Rules → Single → Asking → ℕ → Act
-answered R Ack a n = acknowledge a n
-answered R Nak a n = lose R told true a n
-answered R Can a n = lose R told true a n
+abbrev pub onAnswer : Rules → Single → Asking → ℕ → Act
+onAnswer R Ack a n = acknowledge a n
+onAnswer R Nak a n = lose R told true a n
+onAnswer R Can a n = lose R told true a n
 
 -- In quiet, due or back-off: stray, nothing changes.
 abbrev pub onSingle : Rules → Single → Job → Act
 onSingle R s Idle = goesOn Idle sending.Stray
 onSingle R s (Due a n) = goesOn (Due a n) sending.Stray
-onSingle R s (Waiting a n e) = answered R s a n
+onSingle R s (Waiting a n e) = onAnswer R s a n
 onSingle R s (BackingOff a n l) = goesOn (BackingOff a n l) sending.Stray
 onSingle R s (Awaiting c n e) = goesOn (Awaiting c n e) sending.Stray
 
@@ -52,13 +54,16 @@ release (Waiting a n e) = still (Waiting a n e)
 release (BackingOff a n l) = still (BackingOff a n l)
 release (Awaiting c n e) = still (Awaiting c n e)
 
--- A RES with the same Command while the session awaits it.
+-- A session stays open after its ACK and waits for a RES with the same Command.
+abbrev pub awaitedBy : Job → Awaited
+awaitedBy Idle = awaited.Nothing
+awaitedBy (Due a n) = awaited.Nothing
+awaitedBy (Waiting a n e) = awaited.Nothing
+awaitedBy (BackingOff a n l) = awaited.Nothing
+awaitedBy (Awaiting c n e) = awaited.Response c
+
 abbrev pub awaits : ℕ → Job → Bool
-awaits command Idle = false
-awaits command (Due a n) = false
-awaits command (Waiting a n e) = false
-awaits command (BackingOff a n l) = false
-awaits command (Awaiting c n e) = eqb command c
+awaits command j = isAwaited command (awaitedBy j)
 
 abbrev pub copiesOf : Job → ℕ
 copiesOf Idle = 0
@@ -71,23 +76,27 @@ copiesOf (Awaiting c n e) = n
 abbrev pub respond : Job → Act
 respond j = record { job = Idle; sending = sending.Nothing; session = session.Response (copiesOf j); reset = reset.Nothing; copy = false }
 
+-- Any other is an end like the rest.
+abbrev pub onResponse : ℕ → Job → Act
+onResponse command j = pick (awaits command j) (respond j) (release j)
+
 abbrev pub onEnd : End → Job → Act
 onEnd end.BadLength j = release j
 onEnd end.BadSum j = release j
 onEnd end.Reserved j = release j
 onEnd (end.Request size) j = release j
-onEnd (end.Response size command) j = pick (awaits command j) (respond j) (release j)
+onEnd (end.Response size command) j = onResponse command j
 
 -- the job's act on an event, with a held frame of so many bytes
-abbrev pub act : Rules → ℕ → Event → Job → Act
-act R size Inside j = still j
-act R size (Kept at) j = still j
-act R size Skipped j = still j
-act R size (Alone s) j = onSingle R s j
-act R size (Ended e) j = onEnd e j
-act R size TickHunting j = onTick R size true j
-act R size TickInside j = onTick R size false j
-act R size Aborted j = onAbort R size j
+abbrev pub onEvent : Rules → ℕ → Event → Job → Act
+onEvent R size Inside j = still j
+onEvent R size (Kept at) j = still j
+onEvent R size Skipped j = still j
+onEvent R size (Alone s) j = onSingle R s j
+onEvent R size (Ended e) j = onEnd e j
+onEvent R size TickHunting j = onTick R size true j
+onEvent R size TickInside j = onTick R size false j
+onEvent R size Aborted j = onAbort R size j
 
 -- Restart reports abandoned: in the sending part for an open send, in the session part alone for an open session.
 abbrev pub abandonedSend : Asking → Sending

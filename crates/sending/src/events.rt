@@ -1,21 +1,22 @@
 // What the open send or session does on an event of reception, and at a restart (sections 5 and 6).
+use hearing::End;
+use hearing::Event;
+use hearing::Single;
 use job::Act;
 use job::Asking;
 use job::Job;
-use job::Reset;
-use job::Sending;
-use job::Session;
 use job::goes_on;
 use job::lose;
 use job::on_abort;
 use job::on_tick;
 use job::start;
-use reception::End;
-use reception::Event;
-use reception::Single;
+use reception::Awaited;
+use reception::is_awaited;
+use report::Reset;
+use report::Sending;
+use report::Session;
 ghost use mathlib.Core.Path.{_≡_};
-ghost use Rattle.frame.specs.Pick.{pick};
-ghost use Rattle.job.specs.Rules.{base};
+ghost use Rattle.rules.specs.Rules.{base};
 ghost use Rattle.sending.specs.Events as spec;
 
 fn acknowledge(asking: Asking, copies: u8) -> Act
@@ -38,8 +39,8 @@ fn acknowledge(asking: Asking, copies: u8) -> Act
 }
 
 // 06, 15 or 18 while waiting: the copy is acknowledged, or given up.
-fn answered(single: Single, asking: Asking, copies: u8) -> Act
-    ensures { λ r. ⌜ r ≡ spec.answered base single asking copies ⌝ }
+fn on_answer(single: Single, asking: Asking, copies: u8) -> Act
+    ensures { λ r. ⌜ r ≡ spec.onAnswer base single asking copies ⌝ }
 {
     if let Single::Ack = single {
         return acknowledge(asking, copies);
@@ -56,7 +57,7 @@ fn on_single(single: Single, job: Job) -> Act
         copies,
         elapsed: _,
     } = job {
-        return answered(single, asking, copies);
+        return on_answer(single, asking, copies);
     }
     goes_on(job, Sending::Stray)
 }
@@ -71,18 +72,26 @@ fn release(job: Job) -> Act
     goes_on(job, Sending::Nothing)
 }
 
-// Whether a response with this command is the one that an open session awaits.
-pub fn awaits(wanted: u8, job: Job) -> bool
-    ensures { λ r. ⌜ r ≡ spec.awaits wanted job ⌝ }
+// What the open send or session waits to receive: a session, behind its ACK, the response to its command.
+pub fn awaited_by(job: Job) -> Awaited
+    ensures { λ r. ⌜ r ≡ spec.awaitedBy job ⌝ }
 {
     if let Job::Awaiting {
         command,
         copies: _,
         elapsed: _,
     } = job {
-        return wanted == command;
+        return Awaited::Response { command: command };
     }
-    false
+    Awaited::Nothing
+}
+
+// Whether a response with this command is the one that an open session awaits.
+pub fn awaits(command: u8, job: Job) -> bool
+    ensures { λ r. ⌜ r ≡ spec.awaits command job ⌝ }
+{
+    let awaited = awaited_by(job);
+    is_awaited(command, awaited)
 }
 
 fn copies_of(job: Job) -> u8
@@ -111,7 +120,7 @@ fn copies_of(job: Job) -> u8
 
 // A response: the awaited one ends the session, any other is an end like the rest.
 fn on_response(command: u8, job: Job) -> Act
-    ensures { λ r. ⌜ r ≡ pick (spec.awaits command job) (spec.respond job) (spec.release job) ⌝ }
+    ensures { λ r. ⌜ r ≡ spec.onResponse command job ⌝ }
 {
     if awaits(command, job) {
         let copies = copies_of(job);
@@ -138,7 +147,7 @@ fn on_end(end: End, job: Job) -> Act
 
 // What the job does on an event, with a held frame of so many bytes.
 pub fn on_event(size: u16, event: Event, job: Job) -> Act
-    ensures { λ r. ⌜ r ≡ spec.act base size event job ⌝ }
+    ensures { λ r. ⌜ r ≡ spec.onEvent base size event job ⌝ }
 {
     match event {
         Event::Inside | Event::Kept { at: _ } | Event::Skipped => goes_on(job, Sending::Nothing),

@@ -2,17 +2,17 @@
 -- Assumes nothing.
 use mathlib.Core.Path.{_≡_, refl}
 use mathlib.Core.Bool.{false}
-use Rattle.reception.specs.declared.hearing.End.{End}
-use Rattle.reception.specs.declared.hearing.End.the-variants as end
-use Rattle.frame.proofs.Picks.{no}
+use Rattle.hearing.specs.declared.hearing.End.{End}
+use Rattle.hearing.specs.declared.hearing.End.the-variants as end
+use Rattle.refusals.proofs.Picks.{no}
 use Rattle.job.specs.declared.job.Job.{Job}
 use Rattle.job.specs.declared.job.Job.the-variants.{Idle, Due, Waiting, BackingOff, Awaiting}
-use Rattle.job.specs.declared.report.Reset.{Reset}
-use Rattle.job.specs.declared.report.Reset.the-variants as reset
-use Rattle.job.specs.declared.report.Sending.the-variants as sending
+use Rattle.report.specs.declared.Reset.{Reset}
+use Rattle.report.specs.declared.Reset.the-variants as reset
+use Rattle.report.specs.declared.Sending.the-variants as sending
 use Rattle.job.specs.Job.{goesOn, isOpen}
 use Rattle.sending.specs.Events.{onEnd}
-use Rattle.report.specs.Report.{either}
+use Rattle.step.specs.Decide.{either}
 
 -- with no job open no reset is the sender's
 pub either-none : (x : Reset) → either x reset.Nothing ≡ x

@@ -6,15 +6,15 @@ use Prim.Native.Nat.{ℕ, _≤_}
 use native.Mathlib.Omega.{arith}
 use lib.Dec.{ltb}
 use borrow.Author.Tests.{ltb-false}
-use Rattle.frame.specs.Pick.{pick}
-use Rattle.frame.proofs.Picks.{no}
-use Rattle.frame.specs.declared.refusal.Refusal.{Refusal}
-use Rattle.frame.specs.declared.refusal.Refusal.the-variants.{Room, Busy, Kind, Long}
+use Rattle.refusals.specs.Pick.{pick}
+use Rattle.refusals.proofs.Picks.{no}
+use Rattle.refusals.specs.declared.Refusal.{Refusal}
+use Rattle.refusals.specs.declared.Refusal.the-variants.{Room, Busy, Kind, Long}
 use Rattle.job.specs.Job.{isOpen}
 use Rattle.job.specs.declared.job.Job.{Job}
 use Rattle.step.specs.declared.checks.Checked.{Checked}
 use Rattle.step.specs.declared.checks.Checked.the-variants.{Passes, Refuses}
-use Rattle.step.specs.Checks.{check, lacksRoom, roomChecks, sendChecks, sessionChecks}
+use Rattle.step.specs.Checks.{check, lacksRoom, roomChecks, sendOwn, sessionOwn}
 
 neither : (x y : Bool) → pick x true y ≡ false → (x ≡ false) × (y ≡ false)
 neither true y e = absurd (no e)
@@ -42,12 +42,12 @@ room-passed line up own e =
 long-passed : (n : ℕ) → check (ltb 252 n) Long Passes ≡ Passes → n ≤ 252
 long-passed n e = ltb-false 252 n (passed (ltb 252 n) Long Passes e .0)
 
-pub session-passed : (j : Job) (n : ℕ) → sessionChecks j n ≡ Passes → (isOpen j ≡ false) × (n ≤ 252)
+pub session-passed : (j : Job) (n : ℕ) → sessionOwn j n ≡ Passes → (isOpen j ≡ false) × (n ≤ 252)
 session-passed j n e =
     let p = passed (isOpen j) Busy _ e in
     (p .0, long-passed n (p .1))
 
-pub send-passed : (j : Job) (kind n : ℕ) → sendChecks j kind n ≡ Passes → (isOpen j ≡ false) × (kind ≤ 1) × (n ≤ 252)
+pub send-passed : (j : Job) (kind n : ℕ) → sendOwn j kind n ≡ Passes → (isOpen j ≡ false) × (kind ≤ 1) × (n ≤ 252)
 send-passed j kind n e =
     let p = passed (isOpen j) Busy _ e in
     let k = passed (ltb 1 kind) Kind _ (p .1) in

@@ -3,51 +3,53 @@
 --     send-checks-determined, session-checks-determined   what the checks of a send, of a session say
 --     fresh-determined                                    the numbers of a fresh link
 --     decide-determined, decide-tick-determined           what a byte decides, and what a tick does
+--     either-determined                                   the reset of a call
 --     opening-determined, restarting-determined           what an accepted send or session decides, and what a restart does
 -- Assumes nothing.
 use mathlib.Core.Path.{_≡_}
 use mathlib.Core.Bool.{Bool}
 use Prim.Native.Nat.{ℕ}
-use Rattle.frame.proofs.Theorems.{fixed}
-use Rattle.reception.specs.declared.hearing.Event.{Event}
+use Rattle.refusals.proofs.Theorems.{fixed}
+use Rattle.hearing.specs.declared.hearing.Event.{Event}
 use Rattle.job.specs.declared.job.Asking.{Asking}
 use Rattle.job.specs.declared.job.Job.{Job}
-use Rattle.job.specs.Rules.{base}
-use Rattle.job.specs.Job.{start}
-use Rattle.sending.specs.Events.{onRestart}
-use Rattle.report.specs.declared.report.Reception.the-variants as reception
+use Rattle.rules.specs.Rules.{base}
+use Rattle.report.specs.declared.Reset.{Reset}
 use Rattle.step.specs.declared.checks.Checked.{Checked}
-use Rattle.step.specs.declared.state.Core.{Core}
-use Rattle.step.specs.declared.step.Outcome.{Outcome}
-use Rattle.step.specs.Checks.{lacksRoom, roomChecks, sendChecks, sessionChecks}
-use Rattle.step.specs.State.{freshCore}
-use Rattle.step.specs.Step.{outcomeOn, told, restarting}
+use Rattle.step.specs.declared.core.Core.{Core}
+use Rattle.step.specs.declared.decide.Outcome.{Outcome}
+use Rattle.step.specs.Checks.{lacksRoom, sendChecks, sessionChecks}
+use Rattle.step.specs.Core.{freshCore}
+use Rattle.step.specs.Decide.{either, decide, opening, restarting}
 
 pub lacks-room-determined : (line up : ℕ) {r q : Bool} → r ≡ lacksRoom line up → q ≡ lacksRoom line up → r ≡ q
 lacks-room-determined line up = fixed
 
 pub send-checks-determined : (line up : ℕ) (j : Job) (kind n : ℕ) {r q : Checked}
-    → r ≡ roomChecks line up (sendChecks j kind n) → q ≡ roomChecks line up (sendChecks j kind n) → r ≡ q
+    → r ≡ sendChecks line up j kind n → q ≡ sendChecks line up j kind n → r ≡ q
 send-checks-determined line up j kind n = fixed
 
 pub session-checks-determined : (line up : ℕ) (j : Job) (n : ℕ) {r q : Checked}
-    → r ≡ roomChecks line up (sessionChecks j n) → q ≡ roomChecks line up (sessionChecks j n) → r ≡ q
+    → r ≡ sessionChecks line up j n → q ≡ sessionChecks line up j n → r ≡ q
 session-checks-determined line up j n = fixed
 
 pub fresh-determined : {r q : Core} → r ≡ freshCore → q ≡ freshCore → r ≡ q
 fresh-determined = fixed
 
 pub decide-determined : (j : Job) (bad size : ℕ) (e : Event) {r q : Outcome}
-    → r ≡ outcomeOn base size e j bad → q ≡ outcomeOn base size e j bad → r ≡ q
+    → r ≡ decide base size e j bad → q ≡ decide base size e j bad → r ≡ q
 decide-determined j bad size e = fixed
 
 pub decide-tick-determined : (j : Job) (bad size : ℕ) (e : Event) {r q : Outcome}
-    → r ≡ outcomeOn base size e j bad → q ≡ outcomeOn base size e j bad → r ≡ q
+    → r ≡ decide base size e j bad → q ≡ decide base size e j bad → r ≡ q
 decide-tick-determined j bad size e = fixed
 
+pub either-determined : (sums sender : Reset) {r q : Reset} → r ≡ either sums sender → q ≡ either sums sender → r ≡ q
+either-determined sums sender = fixed
+
 pub opening-determined : (hunting : Bool) (a : Asking) (bad : ℕ) {r q : Outcome}
-    → r ≡ told reception.Nothing bad (start hunting a 0) → q ≡ told reception.Nothing bad (start hunting a 0) → r ≡ q
+    → r ≡ opening hunting a bad → q ≡ opening hunting a bad → r ≡ q
 opening-determined hunting a bad = fixed
 
-pub restarting-determined : (j : Job) {r q : Outcome} → r ≡ restarting (onRestart j) → q ≡ restarting (onRestart j) → r ≡ q
+pub restarting-determined : (j : Job) {r q : Outcome} → r ≡ restarting j → q ≡ restarting j → r ≡ q
 restarting-determined j = fixed

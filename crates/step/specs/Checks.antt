@@ -5,9 +5,9 @@ use mathlib.Core.Bool.{Bool, true}
 use mathlib.Core.List.{List}
 use lib.Dec.{ltb}
 use lib.ListN.{length}
-use Rattle.frame.specs.Pick.{pick}
-use Rattle.frame.specs.declared.refusal.Refusal.{Refusal}
-use Rattle.frame.specs.declared.refusal.Refusal.the-variants.{Room, Busy, Kind, Long}
+use Rattle.refusals.specs.Pick.{pick}
+use Rattle.refusals.specs.declared.Refusal.{Refusal}
+use Rattle.refusals.specs.declared.Refusal.the-variants.{Room, Busy, Kind, Long}
 use Rattle.job.specs.Job.{isOpen}
 use Rattle.job.specs.declared.job.Job.{Job}
 use Rattle.step.specs.declared.checks.Checked.{Checked}
@@ -28,9 +28,16 @@ roomChecks line up own = check (lacksRoom line up) Room own
 abbrev pub checks : List ℕ → List ℕ → Checked → Checked
 checks line up own = roomChecks (length line) (length up) own
 
--- Send goes on with BUSY, KIND, LONG; session, which is always REQ, with BUSY, LONG.
-abbrev pub sendChecks : Job → ℕ → ℕ → Checked
-sendChecks j kind n = check (isOpen j) Busy (check (ltb 1 kind) Kind (check (ltb 252 n) Long Passes))
+-- Its own: send goes on with BUSY, KIND, LONG; session, which is always REQ, with BUSY, LONG.
+abbrev pub sendOwn : Job → ℕ → ℕ → Checked
+sendOwn j kind n = check (isOpen j) Busy (check (ltb 1 kind) Kind (check (ltb 252 n) Long Passes))
 
-abbrev pub sessionChecks : Job → ℕ → Checked
-sessionChecks j n = check (isOpen j) Busy (check (ltb 252 n) Long Passes)
+abbrev pub sessionOwn : Job → ℕ → Checked
+sessionOwn j n = check (isOpen j) Busy (check (ltb 252 n) Long Passes)
+
+-- all of them: ROOM first
+abbrev pub sendChecks : ℕ → ℕ → Job → ℕ → ℕ → Checked
+sendChecks line up j kind n = roomChecks line up (sendOwn j kind n)
+
+abbrev pub sessionChecks : ℕ → ℕ → Job → ℕ → Checked
+sessionChecks line up j n = roomChecks line up (sessionOwn j n)

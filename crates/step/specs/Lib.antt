@@ -1,3 +1,3 @@
-pub mod State
-pub mod Step
+pub mod Core
+pub mod Decide
 pub mod Checks

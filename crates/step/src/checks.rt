@@ -1,9 +1,9 @@
 // The checks of the link calls (section 3), in their order: the first that is met refuses.
-use frame::Refusal;
+use refusals::Refusal;
 use job::Job;
 use job::is_open;
 ghost use mathlib.Core.Path.{_≡_};
-ghost use Rattle.step.specs.Checks.{lacksRoom, roomChecks, sendChecks, sessionChecks};
+ghost use Rattle.step.specs.Checks.{lacksRoom, sendChecks, sessionChecks};
 
 pub enum Checked {
     Passes,
@@ -22,7 +22,7 @@ pub fn lacks_room(line: usize, up: usize) -> bool
 
 // A send's, for so many parameters.
 pub fn send_checks(line: usize, up: usize, job: Job, kind: u8, n: usize) -> Checked
-    ensures { λ r. ⌜ r ≡ roomChecks line up (sendChecks job kind n) ⌝ }
+    ensures { λ r. ⌜ r ≡ sendChecks line up job kind n ⌝ }
 {
     if lacks_room(line, up) {
         return Checked::Refuses(Refusal::Room);
@@ -41,7 +41,7 @@ pub fn send_checks(line: usize, up: usize, job: Job, kind: u8, n: usize) -> Chec
 
 // A session's, which is always a request.
 pub fn session_checks(line: usize, up: usize, job: Job, n: usize) -> Checked
-    ensures { λ r. ⌜ r ≡ roomChecks line up (sessionChecks job n) ⌝ }
+    ensures { λ r. ⌜ r ≡ sessionChecks line up job n ⌝ }
 {
     if lacks_room(line, up) {
         return Checked::Refuses(Refusal::Room);

@@ -2,10 +2,10 @@
 -- Assumes nothing.
 use mathlib.Core.Path.{_≡_}
 use Prim.Native.Nat.{ℕ}
-use Rattle.frame.proofs.Theorems.{fixed}
-use Rattle.reception.specs.declared.hearing.Hearing.{Hearing}
+use Rattle.refusals.proofs.Theorems.{fixed}
+use Rattle.hearing.specs.declared.hearing.Hearing.{Hearing}
 use Rattle.tally.specs.declared.Tally.{Tally}
-use Rattle.tally.specs.Tally.{oneMore, countedByte, fresh, openBytes}
+use Rattle.tally.specs.Tally.{oneMore, countByte, fresh, openBytes}
 
 -- Section 12: each promise determines its answer.
 
@@ -15,7 +15,7 @@ fresh-determined = fixed
 pub more-determined : (n : ℕ) {r q : ℕ} → r ≡ oneMore n → q ≡ oneMore n → r ≡ q
 more-determined n = fixed
 
-pub byte-determined : (b : ℕ) (t : Tally) {r q : Tally} → r ≡ countedByte b t → q ≡ countedByte b t → r ≡ q
+pub byte-determined : (b : ℕ) (t : Tally) {r q : Tally} → r ≡ countByte b t → q ≡ countByte b t → r ≡ q
 byte-determined b t = fixed
 
 pub open-determined : (h : Hearing) {r q : ℕ} → r ≡ openBytes h → q ≡ openBytes h → r ≡ q

@@ -2,17 +2,17 @@
 -- Assumes nothing.
 use Prim.Native.Nat.{ℕ, _+_}
 use lib.Dec.{ltb, eqb}
-use Rattle.frame.specs.Pick.{pick}
-use Rattle.reception.specs.Hearing.{heardByte}
-use Rattle.reception.specs.declared.hearing.Hearing.{Hearing}
-use Rattle.reception.specs.declared.hearing.Hearing.the-variants.{Hunting, Head, Body}
-use Rattle.reception.specs.declared.hearing.Single.{Single}
-use Rattle.reception.specs.declared.hearing.Single.the-variants.{Ack, Nak, Can}
-use Rattle.reception.specs.declared.hearing.End.{End}
-use Rattle.reception.specs.declared.hearing.End.the-variants.{BadLength, BadSum, Reserved, Request, Response}
-use Rattle.reception.specs.declared.hearing.Event.{Event}
-use Rattle.reception.specs.declared.hearing.Event.the-variants.{Inside, Kept, Skipped, Alone, Ended, TickHunting, TickInside, Aborted}
-use Rattle.reception.specs.declared.hearing.Heard.{Heard}
+use Rattle.refusals.specs.Pick.{pick}
+use Rattle.hearing.specs.Hearing.{hearByte}
+use Rattle.hearing.specs.declared.hearing.Hearing.{Hearing}
+use Rattle.hearing.specs.declared.hearing.Hearing.the-variants.{Hunting, Head, Body}
+use Rattle.hearing.specs.declared.hearing.Single.{Single}
+use Rattle.hearing.specs.declared.hearing.Single.the-variants.{Ack, Nak, Can}
+use Rattle.hearing.specs.declared.hearing.End.{End}
+use Rattle.hearing.specs.declared.hearing.End.the-variants.{BadLength, BadSum, Reserved, Request, Response}
+use Rattle.hearing.specs.declared.hearing.Event.{Event}
+use Rattle.hearing.specs.declared.hearing.Event.the-variants.{Inside, Kept, Skipped, Alone, Ended, TickHunting, TickInside, Aborted}
+use Rattle.hearing.specs.declared.hearing.Heard.{Heard}
 use Rattle.tally.specs.declared.Counts.{Counts}
 use Rattle.tally.specs.declared.Tally.{Tally}
 
@@ -64,8 +64,8 @@ added c k =
 abbrev pub tallied : Counts → Heard → Tally
 tallied k h = record { hearing = h .hearing; counts = added (column (h .event)) k }
 
-abbrev pub countedByte : ℕ → Tally → Tally
-countedByte b t = tallied (t .counts) (heardByte b (t .hearing))
+abbrev pub countByte : ℕ → Tally → Tally
+countByte b t = tallied (t .counts) (hearByte b (t .hearing))
 
 -- Before the first byte: hunting, nothing counted.
 abbrev pub none : Counts

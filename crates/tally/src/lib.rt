@@ -1,8 +1,8 @@
 // The tally of section 9 (document 01): a byte, heard as the link hears it with no ticks, adds 1 to one count or to none.
-use reception::End;
-use reception::Event;
-use reception::Hearing;
-use reception::Single;
+use hearing::End;
+use hearing::Event;
+use hearing::Hearing;
+use hearing::Single;
 ghost use mathlib.Core.Path.{_≡_};
 ghost use Rattle.tally.specs.Tally as spec;
 
@@ -98,10 +98,10 @@ fn count_event(mut counts: Counts, event: Event) -> Counts
 
 // The tally with one byte more.
 pub fn count_byte(tally: Tally, b: u8) -> Tally
-    ensures { λ r. ⌜ r ≡ spec.countedByte b tally ⌝ }
+    ensures { λ r. ⌜ r ≡ spec.countByte b tally ⌝ }
 {
     let hearing = tally.hearing;
-    let heard = reception::hear_byte(hearing, b);
+    let heard = hearing::hear_byte(hearing, b);
     let event = heard.event;
     let after = heard.hearing;
     let counts = count_event(tally.counts, event);

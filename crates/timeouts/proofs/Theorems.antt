@@ -6,26 +6,27 @@ use Prim.Native.Nat.{ℕ, _/_, _%_}
 use native.Mathlib.Omega.{arith}
 use lib.ListN.{length, take, drop, replicate}
 use lib.Dec.{ltb, eqb}
-use Rattle.frame.specs.Pick.{pick}
-use Rattle.frame.specs.Bytes.{xorAll}
+use Rattle.refusals.specs.Pick.{pick}
+use Rattle.frame.specs.Bytes.{fold}
 use Rattle.frame.specs.Frame.{frameOf}
 use Rattle.frame.specs.Builder.{builtTold, Build}
-use Rattle.frame.specs.declared.refusal.Refusal.{Refusal}
-use Rattle.frame.specs.declared.refusal.Refusal.the-variants as refusal
+use Rattle.refusals.specs.declared.Refusal.{Refusal}
+use Rattle.refusals.specs.declared.Refusal.the-variants as refusal
 use Rattle.frame.specs.declared.builder.Built.{Built}
 use Rattle.frame.specs.declared.builder.Built.the-variants as built
-use Rattle.frame.proofs.Picks.{through, through-by}
-use Rattle.frame.proofs.Theorems.{fixed, build-accepts}
-use Rattle.reading.specs.Reader.{readingOf, parametersOf}
+use Rattle.refusals.proofs.Picks.{through, through-by}
+use Rattle.refusals.proofs.Theorems.{fixed}
+use Rattle.frame.proofs.Theorems.{build-accepts}
+use Rattle.reading.specs.Reader.{read, parametersOf}
 use Rattle.reading.specs.declared.reader.Reading.the-variants.{Parts}
 use Rattle.reading.proofs.Theorems.{build-reads}
-use Rattle.units.specs.Units.{convertedOf}
+use Rattle.units.specs.Units.{ticksOf}
 use Rattle.units.specs.declared.Millis.{Millis}
 use Rattle.units.specs.declared.Ticks10.{Ticks10}
 use Rattle.units.specs.declared.Converted.{Converted}
 use Rattle.units.specs.declared.Converted.the-variants as converted
 use Rattle.units.proofs.Theorems.{millis-back}
-use Rattle.timeouts.specs.Timeouts.{ticksFor, setOf, SetTimeouts, isOldTimeouts, timeAt, oldTold, oldTimeoutsOf}
+use Rattle.timeouts.specs.Timeouts.{ticksFor, setOf, SetTimeouts, isOldTimeouts, timeAt, oldTold, readTimeouts}
 use Rattle.timeouts.specs.declared.OldTimeouts.{OldTimeouts}
 use Rattle.timeouts.specs.declared.OldTimeouts.the-variants as old
 use Rattle.timeouts.proofs.Setting.{set-answer, set-left}
@@ -36,12 +37,12 @@ pub set-timeouts-determined : {rxack rxbyte : Millis} {lent : List ℕ} {r q : B
     → SetTimeouts rxack rxbyte lent r l → SetTimeouts rxack rxbyte lent q m → (r ≡ q) × (l ≡ m)
 set-timeouts-determined a b = (fixed (a .answer) (b .answer), fixed (a .left) (b .left))
 
-pub read-timeouts-determined : (body : List ℕ) {r q : OldTimeouts} → r ≡ oldTimeoutsOf body → q ≡ oldTimeoutsOf body → r ≡ q
+pub read-timeouts-determined : (body : List ℕ) {r q : OldTimeouts} → r ≡ readTimeouts body → q ≡ readTimeouts body → r ≡ q
 read-timeouts-determined body = fixed
 
 -- ---- timeouts
 
-module _ (rxack rxbyte : Millis) (a b : Ticks10) (p : convertedOf rxack ≡ converted.Ticks a) (q : convertedOf rxbyte ≡ converted.Ticks b) where
+module _ (rxack rxbyte : Millis) (a b : Ticks10) (p : ticksOf rxack ≡ converted.Ticks a) (q : ticksOf rxbyte ≡ converted.Ticks b) where
   -- the frame is the one that `build` gives for REQ 06 with the two numbers of ticks
   pub set-builds : (lent : List ℕ) (r : Built) (lent′ : List ℕ) → SetTimeouts rxack rxbyte lent r lent′ → Build 0 6 (a .0 ∷ b .0 ∷ []) lent r lent′
   set-builds lent r lent′ s = record {
@@ -50,13 +51,13 @@ module _ (rxack rxbyte : Millis) (a b : Ticks10) (p : convertedOf rxack ≡ conv
   }
 
   -- its RES with the same ticks is answered as the same times
-  pub timeouts-back : oldTimeoutsOf (1 ∷ 6 ∷ a .0 ∷ b .0 ∷ []) ≡ old.Were rxack rxbyte
+  pub timeouts-back : readTimeouts (1 ∷ 6 ∷ a .0 ∷ b .0 ∷ []) ≡ old.Were rxack rxbyte
   timeouts-back = ap₂ (λ (x y : Millis). old.Were x y) (millis-back rxack a p .0) (millis-back rxbyte b q .0)
 
 -- what was written for two times, read back
 pub record ReadsBack (rxack rxbyte : Millis) (lent : List ℕ) (m : ℕ) (lent′ : List ℕ) : Type 0 where
   pub size : m ≡ 7
-  pub parts : readingOf (take m lent′) ≡ Parts 0 6 2
+  pub parts : read (take m lent′) ≡ Parts 0 6 2
   pub first : timeAt (parametersOf (take m lent′) 2) 0 ≡ rxack
   pub second : timeAt (parametersOf (take m lent′) 2) 1 ≡ rxbyte
   pub beyond : drop m lent′ ≡ drop m lent
@@ -64,12 +65,12 @@ pub record ReadsBack (rxack rxbyte : Millis) (lent : List ℕ) (m : ℕ) (lent�
 -- a frame that was written reads as REQ 06 with the two times; bytes beyond it stay
 pub set-reads : (rxack rxbyte : Millis) (lent : List ℕ) (m : ℕ) (lent′ : List ℕ) → SetTimeouts rxack rxbyte lent (built.Frame m) lent′
     → ReadsBack rxack rxbyte lent m lent′
-set-reads rxack rxbyte lent m lent′ s = by (convertedOf rxack) (convertedOf rxbyte) refl refl
+set-reads rxack rxbyte lent m lent′ s = by (ticksOf rxack) (ticksOf rxbyte) refl refl
   where
     no : built.Frame m ≡ built.Refused refusal.Range → ReadsBack rxack rxbyte lent m lent′
     no e = let z : _≡_ {A = ℕ} 0 1 = cc in absurd (omega arith)
 
-    by : (x y : Converted) → convertedOf rxack ≡ x → convertedOf rxbyte ≡ y → ReadsBack rxack rxbyte lent m lent′
+    by : (x y : Converted) → ticksOf rxack ≡ x → ticksOf rxbyte ≡ y → ReadsBack rxack rxbyte lent m lent′
     by (converted.Refused k) y p q = no (s .answer ∙ set-answer rxack rxbyte lent (converted.Refused k) y p q)
     by (converted.Ticks a) (converted.Refused k) p q = no (s .answer ∙ set-answer rxack rxbyte lent (converted.Ticks a) (converted.Refused k) p q)
     by (converted.Ticks a) (converted.Ticks b) p q =
@@ -86,7 +87,7 @@ set-reads rxack rxbyte lent m lent′ s = by (convertedOf rxack) (convertedOf rx
 -- ---- Section 3: the number of each refusal alone, and 0 with the values of each answer
 
 pub timeouts-told : (body : List ℕ)
-    → oldTold (oldTimeoutsOf body) ≡ pick (isOldTimeouts body) (0 ∷ timeAt body 2 .0 ∷ timeAt body 3 .0 ∷ []) (10 ∷ [])
+    → oldTold (readTimeouts body) ≡ pick (isOldTimeouts body) (0 ∷ timeAt body 2 .0 ∷ timeAt body 3 .0 ∷ []) (10 ∷ [])
 timeouts-told body = through oldTold (isOldTimeouts body) (old.Were (timeAt body 2) (timeAt body 3)) (old.Refused refusal.Form)
 
 -- RANGE, then ROOM
@@ -99,7 +100,7 @@ set-room a b room = through builtTold (ltb room 7) (built.Refused refusal.Room) 
 
 -- the second time, where the first is so many ticks
 set-told-by : (rxbyte : Millis) (room : ℕ) (t : Ticks10)
-    → builtTold (setOf (converted.Ticks t) (convertedOf rxbyte) room)
+    → builtTold (setOf (converted.Ticks t) (ticksOf rxbyte) room)
     ≡ pick (ltb 2550 (rxbyte .0)) (11 ∷ []) (pick (eqb (rxbyte .0 % 10) 0) (pick (ltb room 7) (1 ∷ []) (0 ∷ 7 ∷ [])) (11 ∷ []))
 set-told-by rxbyte room t =
     let f : Converted → List ℕ = λ (y : Converted). builtTold (setOf (converted.Ticks t) y room) in
@@ -116,7 +117,7 @@ pub set-told : {rxack rxbyte : Millis} {lent : List ℕ} {r : Built} {lent′ : 
     (11 ∷ [])))
     (11 ∷ []))
 set-told {rxack} {rxbyte} {lent} s =
-    let f : Converted → List ℕ = λ (x : Converted). builtTold (setOf x (convertedOf rxbyte) (length lent)) in
+    let f : Converted → List ℕ = λ (x : Converted). builtTold (setOf x (ticksOf rxbyte) (length lent)) in
     ap builtTold (s .answer)
     ∙ through-by f (ltb 2550 (rxack .0)) refl
     (through-by f (eqb (rxack .0 % 10) 0) (set-told-by rxbyte (length lent) (record { 0 = rxack .0 / 10 })) refl)
@@ -126,16 +127,16 @@ set-told {rxack} {rxbyte} {lent} s =
 -- REQ 06 with 96 0F (1,500 and 150 ms)
 pub timeouts-example : (r : Built) (lent′ : List ℕ) → SetTimeouts (record { 0 = 1500 }) (record { 0 = 150 }) (replicate 7 0) r lent′
     → (r ≡ built.Frame 7) × (lent′ ≡ 1 ∷ 5 ∷ 0 ∷ 6 ∷ 150 ∷ 15 ∷ 101 ∷ [])
-unfolding frameOf xorAll
+unfolding frameOf fold
 timeouts-example r lent′ s = (s .answer, s .left)
 
 -- 2,550 ms is 255: FF stands in both places of the frame that is left in 7 lent bytes. 2,560 and 1,505 are RANGE.
-pub range-edges : (setOf (convertedOf (record { 0 = 2550 })) (convertedOf (record { 0 = 2550 })) 7 ≡ built.Frame 7)
-    × (ticksFor (convertedOf (record { 0 = 2550 })) (convertedOf (record { 0 = 2550 })) ≡ 255 ∷ 255 ∷ [])
+pub range-edges : (setOf (ticksOf (record { 0 = 2550 })) (ticksOf (record { 0 = 2550 })) 7 ≡ built.Frame 7)
+    × (ticksFor (ticksOf (record { 0 = 2550 })) (ticksOf (record { 0 = 2550 })) ≡ 255 ∷ 255 ∷ [])
     × ((a b c d e f g : ℕ) (r : Built) (lent′ : List ℕ)
     → SetTimeouts (record { 0 = 2550 }) (record { 0 = 2550 }) (a ∷ b ∷ c ∷ d ∷ e ∷ f ∷ g ∷ []) r lent′
     → (r ≡ built.Frame 7) × (lent′ ≡ 1 ∷ 5 ∷ 0 ∷ 6 ∷ 255 ∷ 255 ∷ 252 ∷ []))
-    × (setOf (convertedOf (record { 0 = 2560 })) (convertedOf (record { 0 = 150 })) 7 ≡ built.Refused refusal.Range)
-    × (setOf (convertedOf (record { 0 = 150 })) (convertedOf (record { 0 = 1505 })) 7 ≡ built.Refused refusal.Range)
-unfolding frameOf xorAll
+    × (setOf (ticksOf (record { 0 = 2560 })) (ticksOf (record { 0 = 150 })) 7 ≡ built.Refused refusal.Range)
+    × (setOf (ticksOf (record { 0 = 150 })) (ticksOf (record { 0 = 1505 })) 7 ≡ built.Refused refusal.Range)
+unfolding frameOf fold
 range-edges = (refl, refl, λ a b c d e f g r lent′ s. (s .answer, s .left), refl, refl)

@@ -7,18 +7,18 @@ use mathlib.Core.Bool.{Bool, false}
 use mathlib.Core.List.{List, [], _∷_}
 use lib.Dec.{eqb}
 use lib.ListN.{length, getD}
-use Rattle.frame.specs.Pick.{pick}
+use Rattle.refusals.specs.Pick.{pick}
 use Rattle.frame.specs.Frame.{frameOf}
 use Rattle.frame.specs.Builder.{builtOf, leftBy}
-use Rattle.frame.specs.Refusals.{numberOf}
-use Rattle.frame.specs.declared.refusal.Refusal.the-variants as refusal
+use Rattle.refusals.specs.Refusals.{numberOf}
+use Rattle.refusals.specs.declared.Refusal.the-variants as refusal
 use Rattle.frame.specs.declared.builder.Built.{Built}
 use Rattle.frame.specs.declared.builder.Built.the-variants as built
-use Rattle.units.specs.Units.{convertedOf, millisOf}
+use Rattle.units.specs.Units.{ticksOf, millisOf}
 use Rattle.units.specs.declared.Millis.{Millis}
 use Rattle.units.specs.declared.Converted.{Converted}
 use Rattle.units.specs.declared.Converted.the-variants as converted
-use Rattle.masks.specs.Response.{answers}
+use Rattle.masks.specs.Response.{isResponse}
 use Rattle.timeouts.specs.declared.OldTimeouts.{OldTimeouts}
 use Rattle.timeouts.specs.declared.OldTimeouts.the-variants as old
 
@@ -35,15 +35,15 @@ setOf (converted.Ticks a) (converted.Refused k) room = built.Refused refusal.Ran
 setOf (converted.Ticks a) (converted.Ticks b) room = builtOf 0 2 room
 
 pub record SetTimeouts (rxack rxbyte : Millis) (lent : List ℕ) (r : Built) (lent′ : List ℕ) : Type 0 where
-  pub answer : r ≡ setOf (convertedOf rxack) (convertedOf rxbyte) (length lent)
+  pub answer : r ≡ setOf (ticksOf rxack) (ticksOf rxbyte) (length lent)
   pub left : lent′
       ≡ leftBy
-      (setOf (convertedOf rxack) (convertedOf rxbyte) (length lent))
-      (frameOf 0 6 (ticksFor (convertedOf rxack) (convertedOf rxbyte)))
+      (setOf (ticksOf rxack) (ticksOf rxbyte) (length lent))
+      (frameOf 0 6 (ticksFor (ticksOf rxack) (ticksOf rxbyte)))
       lent
 
 abbrev pub isOldTimeouts : List ℕ → Bool
-isOldTimeouts body = pick (answers body 6) (eqb (length body) 4) false
+isOldTimeouts body = pick (isResponse body 6) (eqb (length body) 4) false
 
 -- a parameter, in ticks of 10 ms
 abbrev pub timeAt : List ℕ → ℕ → Millis
@@ -54,8 +54,8 @@ abbrev pub oldTold : OldTimeouts → List ℕ
 oldTold (old.Refused k) = numberOf k ∷ []
 oldTold (old.Were a b) = 0 ∷ a .0 ∷ b .0 ∷ []
 
-abbrev pub oldTimeoutsOf : List ℕ → OldTimeouts
-oldTimeoutsOf body =
+abbrev pub readTimeouts : List ℕ → OldTimeouts
+readTimeouts body =
     pick (isOldTimeouts body)
     (old.Were (timeAt body 2) (timeAt body 3))
     (old.Refused refusal.Form)

@@ -1,6 +1,6 @@
 // Set Timeouts, command 06, and its RES (document 01, section 8; 002, 7.5).
 use frame::Built;
-use frame::Refusal;
+use refusals::Refusal;
 use frame::build;
 use masks::is_response;
 use units::Converted;
@@ -9,7 +9,7 @@ use units::Ticks10;
 use units::millis_of;
 use units::ticks_of;
 ghost use mathlib.Core.Path.{_≡_};
-ghost use Rattle.timeouts.specs.Timeouts.{SetTimeouts, isOldTimeouts, oldTimeoutsOf};
+ghost use Rattle.timeouts.specs.Timeouts.{SetTimeouts, isOldTimeouts, readTimeouts};
 
 pub enum OldTimeouts {
     Refused(Refusal),
@@ -42,7 +42,7 @@ fn is_old_timeouts(body: &[u8]) -> bool
 
 // Reads the whole body: the timeouts that were set before.
 pub fn read_timeouts(body: &[u8]) -> OldTimeouts
-    ensures { λ r. ⌜ r ≡ oldTimeoutsOf (now (body .entry)) ⌝ }
+    ensures { λ r. ⌜ r ≡ readTimeouts (now (body .entry)) ⌝ }
 {
     if !is_old_timeouts(body) {
         return OldTimeouts::Refused(Refusal::Form);

@@ -3,9 +3,9 @@
 use Prim.Native.Nat.{ℕ, _*_, _/_, _%_}
 use mathlib.Core.List.{List, [], _∷_}
 use lib.Dec.{ltb, eqb}
-use Rattle.frame.specs.Pick.{pick}
-use Rattle.frame.specs.Refusals.{numberOf}
-use Rattle.frame.specs.declared.refusal.Refusal.the-variants as refusal
+use Rattle.refusals.specs.Pick.{pick}
+use Rattle.refusals.specs.Refusals.{numberOf}
+use Rattle.refusals.specs.declared.Refusal.the-variants as refusal
 use Rattle.units.specs.declared.Millis.{Millis}
 use Rattle.units.specs.declared.Ticks10.{Ticks10}
 use Rattle.units.specs.declared.Converted.{Converted}
@@ -17,8 +17,8 @@ convertedTold (Refused k) = numberOf k ∷ []
 convertedTold (Ticks t) = 0 ∷ t .0 ∷ []
 
 -- a multiple of 10, 0 to 2,550 ms, else RANGE
-abbrev pub convertedOf : Millis → Converted
-convertedOf m =
+abbrev pub ticksOf : Millis → Converted
+ticksOf m =
     pick (ltb 2550 (m .0)) (Refused refusal.Range)
     (pick (eqb (m .0 % 10) 0) (Ticks (record { 0 = m .0 / 10 })) (Refused refusal.Range))
 

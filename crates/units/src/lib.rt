@@ -1,7 +1,7 @@
 // The two units of time (document 01, section 5), kept apart in every interface.
-use frame::Refusal;
+use refusals::Refusal;
 ghost use mathlib.Core.Path.{_≡_};
-ghost use Rattle.units.specs.Units.{convertedOf, millisOf};
+ghost use Rattle.units.specs.Units.{ticksOf, millisOf};
 
 // Milliseconds: what the link counts in.
 pub struct Millis(pub u32);
@@ -16,7 +16,7 @@ pub enum Converted {
 
 // The one conversion that can refuse: a time that is no multiple of 10 or above 2,550 ms is RANGE.
 pub fn ticks_of(time: Millis) -> Converted
-    ensures { λ r. ⌜ r ≡ convertedOf time ⌝ }
+    ensures { λ r. ⌜ r ≡ ticksOf time ⌝ }
 {
     let ms = time.0;
     if 2550 < ms {

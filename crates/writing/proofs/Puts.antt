@@ -8,12 +8,12 @@ use native.Mathlib.Nat.{min-le-right, zero-add}
 use native.Mathlib.Omega.{arith}
 use lib.ListN.{length, take, length-append, length-take}
 use borrow.Author.Tests.{lt-ltb, le-ltb}
-use Rattle.frame.specs.Bytes.{over, Laid}
+use Rattle.frame.specs.Bytes.{over, Lay}
 use Rattle.frame.proofs.Over.{over-length, put-bytes, take-min, laid-in}
-use Rattle.report.specs.declared.report.Reply.{Reply}
-use Rattle.report.specs.declared.report.Reply.the-variants.{Silent, Ack, Nak}
-use Rattle.report.specs.Report.{replyBytes}
-use Rattle.writing.specs.Writing.{Put, lineBytes, byteFits, OnLine, HandedUp}
+use Rattle.reception.specs.declared.said.Reply.{Reply}
+use Rattle.reception.specs.declared.said.Reply.the-variants.{Silent, Ack, Nak}
+use Rattle.reception.specs.Said.{replyBytes}
+use Rattle.writing.specs.Writing.{Put, lineBytes, byteFits, PutLine, PutUp}
 
 pub reply-short : (r : Reply) → length (replyBytes r) ≤ 1
 reply-short Silent = omega arith
@@ -23,7 +23,7 @@ reply-short Nak = omega arith
 -- the first bytes of src, laid right behind bs
 pub put-behind : (bs src lent : List ℕ) (size n at : ℕ) {lent₁ lent₂ : List ℕ} {r : Bool}
     → at ≡ length bs → lent₁ ≡ over bs lent → n ≡ min size (length src) → length bs + length src ≤ length lent
-    → Laid src n lent₁ at r lent₂ → Put (bs ++ take size src) lent (at + n) lent₂
+    → Lay src n lent₁ at r lent₂ → Put (bs ++ take size src) lent (at + n) lent₂
 put-behind bs src lent size n at {lent₁} {lent₂} a l e room laid =
     let in-src : n ≤ length src = omega (arith, e, min-le-right size (length src)) in
     let same : length lent₁ ≡ length lent = ap length l ∙ over-length bs lent (omega arith) in
@@ -36,7 +36,7 @@ put-behind bs src lent size n at {lent₁} {lent₂} a l e room laid =
 
 -- the first bytes of src, laid at the front
 pub put-front : (src lent : List ℕ) (size n : ℕ) {lent′ : List ℕ} {r : Bool} → n ≡ min size (length src) → length src ≤ length lent
-    → Laid src n lent 0 r lent′ → Put (take size src) lent n lent′
+    → Lay src n lent 0 r lent′ → Put (take size src) lent n lent′
 put-front src lent size n e room laid =
     simp zero-add at (put-behind [] src lent size n 0 refl refl e (omega arith) laid)
 
@@ -44,9 +44,9 @@ put-front src lent size n e room laid =
 pub byte-fits : (line : List ℕ) → 258 ≤ length line → byteFits line ≡ true
 byte-fits line h = simp (le-ltb (length line) 1 (omega (arith, h)))
 
-pub line-in : {reply : Reply} {copy : Bool} {size r : ℕ} {frame line line′ : List ℕ} → OnLine reply copy size frame line r line′
+pub line-in : {reply : Reply} {copy : Bool} {size r : ℕ} {frame line line′ : List ℕ} → PutLine reply copy size frame line r line′
     → length frame ≡ 257 → 258 ≤ length line → Put (lineBytes reply copy size frame) line r line′
 line-in {line = line} p e h = simp (e, lt-ltb 257 (length line) h) at (p .put)
 
-pub up-in : {n r : ℕ} {body up up′ : List ℕ} → HandedUp n body up r up′ → length body ≡ 254 → 254 ≤ length up → Put (take n body) up r up′
+pub up-in : {n r : ℕ} {body up up′ : List ℕ} → PutUp n body up r up′ → length body ≡ 254 → 254 ≤ length up → Put (take n body) up r up′
 up-in {up = up} p e h = simp (e, le-ltb (length up) 254 h) at (p .put)

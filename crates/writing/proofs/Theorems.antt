@@ -7,16 +7,16 @@ use mathlib.Core.Path.{_≡_}
 use mathlib.Core.Bool.{Bool}
 use mathlib.Core.List.{List}
 use Prim.Native.Nat.{ℕ}
-use Rattle.frame.proofs.Theorems.{fixed}
-use Rattle.report.specs.declared.report.Reply.{Reply}
-use Rattle.writing.specs.Writing.{Put, OnLine, HandedUp}
+use Rattle.refusals.proofs.Theorems.{fixed}
+use Rattle.reception.specs.declared.said.Reply.{Reply}
+use Rattle.writing.specs.Writing.{Put, PutLine, PutUp}
 
 pub put-determined : {bytes lent : List ℕ} {r q : ℕ} {a b : List ℕ} → Put bytes lent r a → Put bytes lent q b → (r ≡ q) × (a ≡ b)
 put-determined x y = (fixed (x .count) (y .count), fixed (x .left) (y .left))
 
 pub line-determined : {reply : Reply} {copy : Bool} {size : ℕ} {frame line : List ℕ} {r q : ℕ} {a b : List ℕ}
-    → OnLine reply copy size frame line r a → OnLine reply copy size frame line q b → (r ≡ q) × (a ≡ b)
+    → PutLine reply copy size frame line r a → PutLine reply copy size frame line q b → (r ≡ q) × (a ≡ b)
 line-determined x y = put-determined (x .put) (y .put)
 
-pub up-determined : {n : ℕ} {body up : List ℕ} {r q : ℕ} {a b : List ℕ} → HandedUp n body up r a → HandedUp n body up q b → (r ≡ q) × (a ≡ b)
+pub up-determined : {n : ℕ} {body up : List ℕ} {r q : ℕ} {a b : List ℕ} → PutUp n body up r a → PutUp n body up q b → (r ≡ q) × (a ≡ b)
 up-determined x y = put-determined (x .put) (y .put)

@@ -7,9 +7,9 @@ use mathlib.Core.List.{List, [], _++_}
 use lib.Dec.{ltb}
 use lib.ListN.{length, take}
 use Rattle.frame.specs.Bytes.{over}
-use Rattle.frame.specs.Pick.{pick}
-use Rattle.report.specs.Report.{replyBytes}
-use Rattle.report.specs.declared.report.Reply.{Reply}
+use Rattle.refusals.specs.Pick.{pick}
+use Rattle.reception.specs.Said.{replyBytes}
+use Rattle.reception.specs.declared.said.Reply.{Reply}
 
 -- bytes written over the front of a lent buffer, and how many
 pub record Put (bytes lent : List ℕ) (r : ℕ) (lent′ : List ℕ) : Type 0 where
@@ -31,8 +31,8 @@ abbrev pub bodyFits : List ℕ → List ℕ → Bool
 bodyFits body up = pick (ltb (length up) (length body)) false true
 
 -- what goes on the line and what is handed up: all of it where there is room, else nothing
-pub record OnLine (reply : Reply) (copy : Bool) (size : ℕ) (frame line : List ℕ) (r : ℕ) (line′ : List ℕ) : Type 0 where
+pub record PutLine (reply : Reply) (copy : Bool) (size : ℕ) (frame line : List ℕ) (r : ℕ) (line′ : List ℕ) : Type 0 where
   pub put : Put (pick (copyFits frame line) (lineBytes reply copy size frame) []) line r line′
 
-pub record HandedUp (n : ℕ) (body up : List ℕ) (r : ℕ) (up′ : List ℕ) : Type 0 where
+pub record PutUp (n : ℕ) (body up : List ℕ) (r : ℕ) (up′ : List ℕ) : Type 0 where
   pub put : Put (pick (bodyFits body up) (take n body) []) up r up′

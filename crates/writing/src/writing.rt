@@ -1,21 +1,11 @@
 // The only writer of lent buffers: what a step puts on the line and hands up.
-use report::Reply;
+use reception::Reply;
 use step::Outcome;
 ghost use mathlib.Core.Path.{_≡_};
 ghost use mathlib.Core.List.{[]};
-ghost use Prim.Native.Nat.{min};
-ghost use Rattle.frame.specs.Pick.{pick};
-ghost use Rattle.report.specs.Report.{replyBytes};
-ghost use Rattle.writing.specs.Writing.{Put, byteFits, OnLine, HandedUp};
-
-fn least(n: usize, cap: usize) -> usize
-    ensures { λ r. ⌜ r ≡ min n cap ⌝ }
-{
-    if n <= cap {
-        return n;
-    }
-    cap
-}
+ghost use Rattle.refusals.specs.Pick.{pick};
+ghost use Rattle.reception.specs.Said.{replyBytes};
+ghost use Rattle.writing.specs.Writing.{Put, byteFits, PutLine, PutUp};
 
 // Writes the single byte, where there is one, if the line is not empty; returns how many bytes.
 pub fn put_reply(reply: Reply, line: &mut [u8]) -> u16
@@ -39,7 +29,7 @@ pub fn put_reply(reply: Reply, line: &mut [u8]) -> u16
 
 // Writes the single byte and the copy behind it, if there is room for both; returns how many bytes.
 pub fn put_line(outcome: Outcome, size: u16, frame: &[u8], line: &mut [u8]) -> u16
-    ensures { λ r. ⌜ OnLine (outcome .reply) (outcome .copy) size (now (frame .entry)) (now (line .entry)) r (now (line .exit)) ⌝ }
+    ensures { λ r. ⌜ PutLine (outcome .reply) (outcome .copy) size (now (frame .entry)) (now (line .entry)) r (now (line .exit)) ⌝ }
 {
     if 257 < frame.len() {
         return 0;
@@ -50,7 +40,7 @@ pub fn put_line(outcome: Outcome, size: u16, frame: &[u8], line: &mut [u8]) -> u
     let reply = outcome.reply;
     let at = put_reply(reply, line);
     if outcome.copy {
-        let n = least(size as usize, frame.len());
+        let n = frame::least(size as usize, frame.len());
         frame::lay(frame, n, line, at as usize);
         return at + n as u16;
     }
@@ -59,12 +49,12 @@ pub fn put_line(outcome: Outcome, size: u16, frame: &[u8], line: &mut [u8]) -> u
 
 // Writes the body's first bytes, if there is room for all of it; returns how many.
 pub fn put_up(body: &[u8], n: u8, up: &mut [u8]) -> u16
-    ensures { λ r. ⌜ HandedUp n (now (body .entry)) (now (up .entry)) r (now (up .exit)) ⌝ }
+    ensures { λ r. ⌜ PutUp n (now (body .entry)) (now (up .entry)) r (now (up .exit)) ⌝ }
 {
     if up.len() < body.len() {
         return 0;
     }
-    let k = least(n as usize, body.len());
+    let k = frame::least(n as usize, body.len());
     frame::lay(body, k, up, 0);
     k as u16
 }

@@ -4,7 +4,7 @@ use borrow.Author.Tests.{lt-ltb, le-ltb, not-true, not-false}
 use mathlib.Core.Path.{_≡_, sym, _∙_}
 use mathlib.Core.Bool.{Bool, true, false}
 use denote.Ref.{now}
-use Rattle.frame.specs.Pick.{pick}
+use Rattle.refusals.specs.Pick.{pick}
 use Rattle.capabilities.specs.Capabilities.{isCapabilities}
 use Rattle.masks.proofs.Layouts.{marks-rest}
 use borrow.Author.Needs.{needs}

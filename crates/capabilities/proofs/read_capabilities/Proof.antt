@@ -14,14 +14,14 @@ is-capabilities-requires c κs = search needs
 returns : tie.Need-returns
 returns c = simp (sym (c .before .is-capabilities .ensures) ∙ not-true _ (c .if1 .taken))
 
-answer-requires : tie.Need-answer-requires
-answer-requires c κs = of-capabilities (now (c .before .before .before .args .body)) (sym (c .before .is-capabilities .ensures) ∙ not-false _ (c .if1 .left))
+capabilities-of-requires : tie.Need-capabilities-of-requires
+capabilities-of-requires c κs = of-capabilities (now (c .before .before .before .args .body)) (sym (c .before .is-capabilities .ensures) ∙ not-false _ (c .if1 .left))
 
 returns-2 : tie.Need-returns-2
 returns-2 c =
-    c .answer .ensures
+    c .capabilities-of .ensures
     ∙ sym (capabilities-yes (now (c .before .before .before .before .args .body)) (sym (c .before .before .is-capabilities .ensures) ∙ not-false _ (c .before .if1 .left)))
 
 pub read-capabilities-spec : {M : Type 1} → statement M
 read-capabilities-spec =
-    tie.close (tie.spec is-capabilities-requires returns answer-requires returns-2)
+    tie.close (tie.spec is-capabilities-requires returns capabilities-of-requires returns-2)

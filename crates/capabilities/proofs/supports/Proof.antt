@@ -5,8 +5,8 @@ use mathlib.Core.Path.{_≡_, sym, _∙_}
 use mathlib.Core.Bool.{Bool}
 use native.Mathlib.Omega.{arith}
 use denote.Ref.{now}
-use Rattle.frame.specs.Pick.{pick}
-use Rattle.capabilities.specs.Capabilities.{supportOf, OfCapabilities}
+use Rattle.refusals.specs.Pick.{pick}
+use Rattle.capabilities.specs.Capabilities.{supports, OfCapabilities}
 use Rattle.capabilities.specs.declared.Support.the-variants.{Supported, Unsupported}
 use Rattle.masks.proofs.Layouts.{marks-rest}
 use Rattle.capabilities.proofs.Layouts.{of-capabilities}
@@ -19,7 +19,7 @@ sized c = of-capabilities (now (c .before .before .before .args .body)) (sym (c 
 
 -- with the test of the function all is decided
 decided : (c : tie.After-is-marked) {t : Bool} → c .is-marked .result ≡ t
-    → supportOf (now (c .before .before .before .before .before .args .body)) (c .before .before .before .before .before .args .f) ≡ pick t Supported Unsupported
+    → supports (now (c .before .before .before .before .before .args .body)) (c .before .before .before .before .before .args .f) ≡ pick t Supported Unsupported
 decided c e =
     let a = c .before .before .before .before .before .args in
     simp (

@@ -6,7 +6,7 @@ use native.Mathlib.Omega.{arith}
 use borrow.Author.Needs.{needs}
 use lib.ListN.{length, take, drop, getD}
 use denote.Ref.{now}
-use Rattle.frame.specs.Bytes.{xorAll}
+use Rattle.frame.specs.Bytes.{fold}
 use Rattle.counting.specs.Ahead.{whole}
 use Rattle.tally.specs.Tally.{added}
 use Rattle.counting.proofs.Ahead.{short-at, whole-at, counts-are}
@@ -85,8 +85,8 @@ returns-4 c =
     let size = c .before .before .before .before .before .before .before .wide .result in
     let w = c .before .before .before .before .before .before .before .wide .ensures in
     let part : i + 1 + size - (i + 1) ≡ size = omega arith in
-    let sum : c .before .before .before .fold .result ≡ xorAll 255 (take size (drop (i + 1) bytes)) =
-    c .before .before .before .fold .ensures ∙ ap (λ (n : ℕ). xorAll 255 (take n (drop (i + 1) bytes))) part in
+    let sum : c .before .before .before .fold .result ≡ fold 255 (take size (drop (i + 1) bytes)) =
+    c .before .before .before .fold .ensures ∙ ap (λ (n : ℕ). fold 255 (take n (drop (i + 1) bytes))) part in
     counts-are
     (c .count-whole .ensures ∙ ap (λ (n : ℕ). added n (s .args .counts)) (ap (λ (x : ℕ). whole (getD bytes (i + 2) 0) x (getD bytes (i + 1 + size) 0)) sum))
     (whole-at bytes i (s .args .counts) size (i + 1 + size) (s .pre .1) (sym (w .0)) (omega arith) refl (omega arith))

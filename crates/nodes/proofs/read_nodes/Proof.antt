@@ -3,7 +3,7 @@
 use mathlib.Core.Path.{ap, sym, _∙_}
 use denote.Ref.{now}
 use borrow.Author.Tests.{lt-ltb, le-ltb, not-true, not-false}
-use Rattle.nodes.specs.Nodes.{nodesOf, leftBy}
+use Rattle.nodes.specs.Nodes.{nodesOf, listLeft}
 use Rattle.nodes.specs.declared.NodeList.{NodeList}
 use Rattle.nodes.proofs.Layouts.{of-node-list, node-list-yes}
 use lib.ListN.{length}
@@ -38,7 +38,7 @@ returns-3 c =
     let lent = now (s .args .list) in
     let f = c .before .before .fill .ensures in
     let yes = node-list-yes body (length lent) (c .before .before .before .before .before .before .if1 .left) (sym (c .before .before .before .before .before .is-node-list .ensures) ∙ not-false _ (c .before .before .before .before .if2 .left)) in
-    record { answer = f .answer ∙ sym yes; left = f .left ∙ ap (λ (a : NodeList). leftBy a (nodesOf body) lent) (sym yes) }
+    record { answer = f .answer ∙ sym yes; left = f .left ∙ ap (λ (a : NodeList). listLeft a (nodesOf body) lent) (sym yes) }
 
 pub read-nodes-spec : {M : Type 1} → statement M
 read-nodes-spec =

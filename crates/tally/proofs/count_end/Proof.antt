@@ -5,9 +5,9 @@ use denote.Enum.Declared.{tagOf}
 use mathlib.Core.List.{List, [], _∷_}
 use Prim.Native.Nat.{ℕ}
 use mathlib.Core.Path.{_≡_, refl}
-use Rattle.reception.specs.declared.hearing.End.{End}
-use Rattle.reception.specs.declared.hearing.End.the-variants.{BadLength, BadSum, Reserved, Request, Response}
-use Rattle.reception.proofs.hearing.End.{the-type}
+use Rattle.hearing.specs.declared.hearing.End.{End}
+use Rattle.hearing.specs.declared.hearing.End.the-variants.{BadLength, BadSum, Reserved, Request, Response}
+use Rattle.hearing.proofs.hearing.End.{the-type}
 use Rattle.tally.specs.Tally.{endColumn}
 use borrow.Author.Needs.{needs}
 use Rattle.tally.proofs.count_end.Statement.{statement}

@@ -5,9 +5,9 @@ use denote.Enum.Declared.{tagOf}
 use mathlib.Core.List.{List, [], _∷_}
 use Prim.Native.Nat.{ℕ}
 use mathlib.Core.Path.{_≡_, refl}
-use Rattle.reception.specs.declared.hearing.Event.{Event}
-use Rattle.reception.specs.declared.hearing.Event.the-variants.{Inside, Kept, Skipped, Alone, Ended, TickHunting, TickInside, Aborted}
-use Rattle.reception.proofs.hearing.Event.{the-type}
+use Rattle.hearing.specs.declared.hearing.Event.{Event}
+use Rattle.hearing.specs.declared.hearing.Event.the-variants.{Inside, Kept, Skipped, Alone, Ended, TickHunting, TickInside, Aborted}
+use Rattle.hearing.proofs.hearing.Event.{the-type}
 use Rattle.tally.specs.Tally.{column}
 use borrow.Author.Needs.{needs}
 use Rattle.tally.proofs.count_event.Statement.{statement}

@@ -4,7 +4,7 @@ use mathlib.Core.Path.{sym, ap, _∙_}
 use denote.Ref.{now}
 use Rattle.step.specs.Checks.{checks}
 use Rattle.step.specs.declared.checks.Checked.the-variants.{Passes}
-use Rattle.link.specs.declared.state.Link.{Link}
+use Rattle.link.specs.declared.link.Link.{Link}
 use Rattle.exports.specs.Feeding.{at, bytesFed}
 use Rattle.exports.proofs.Feeds.{ended}
 use borrow.Author.Needs.{needs}
@@ -14,8 +14,8 @@ use Rattle.exports.proofs.runs.sarnaqel_bytes.Tie as tie
 open-requires : tie.Need-open-requires
 open-requires c κs = search needs
 
-fed-requires : tie.Need-fed-requires
-fed-requires c κs = search needs
+bytes-fed-requires : tie.Need-bytes-fed-requires
+bytes-fed-requires c κs = search needs
 
 same-length : tie.Need-same-length
 same-length c = search needs
@@ -28,8 +28,8 @@ returns c =
     let a = c .before .before .before .before .before .before .before .before .before .before .before .args in
     ended _ _ _ _ _
     (ap (λ (x : Link). bytesFed (checks (now (a .line)) (now (a .up)) Passes) (at x (now (a .line)) (now (a .up)) 0) (now (a .input))) (sym (c .before .before .before .before .before .before .before .«open» .ensures))
-    ∙ c .before .before .before .before .fed .ensures)
+    ∙ c .before .before .before .before .bytes-fed .ensures)
 
 pub sarnaqel-bytes-spec : {M : Type 1} → statement M
 sarnaqel-bytes-spec =
-    tie.close (tie.spec open-requires fed-requires same-length same-length-2 returns)
+    tie.close (tie.spec open-requires bytes-fed-requires same-length same-length-2 returns)

@@ -9,7 +9,7 @@ use lib.ListN.{length, drop}
 use denote.Ref.{now}
 use Rattle.step.specs.Checks.{checks}
 use Rattle.step.specs.declared.checks.Checked.the-variants.{Passes}
-use Rattle.link.specs.declared.state.Link.{Link}
+use Rattle.link.specs.declared.link.Link.{Link}
 use Rattle.exports.specs.Feeding.{runsFed}
 use Rattle.exports.proofs.Feeds.{ended}
 use Rattle.exports.proofs.Takes.{fed, part-given, taken-left, runs-stop, runs-on, runs-end}
@@ -55,8 +55,8 @@ part-bytes-end c = omega arith
 bytes-requires : tie.Need-bytes-requires Inv-loop μ-loop
 bytes-requires c κs = search needs
 
-told-requires : tie.Need-told-requires Inv-loop μ-loop
-told-requires c κs = search needs
+tale-of-requires : tie.Need-tale-of-requires Inv-loop μ-loop
+tale-of-requires c κs = search needs
 
 mix-requires : tie.Need-mix-requires Inv-loop μ-loop
 mix-requires c κs = search needs
@@ -78,7 +78,7 @@ returns c =
     ended _ _ _ _ _
     (start ∙ l .inv .5
     ∙ runs-stop (now (a .line)) (now (a .up)) (a .most) (now (a .input)) (l .link) (l .line) (l .up) (l .sum) (l .at) _ _ _ _ _ _ _ _
-    (part-given (l .at) _ (a .most) (now (a .input)) (c .before .before .before .before .before .before .before .before .before .before .before .before .before .least .ensures)) (l .inv .1) (l .inv .2) (c .before .before .before .before .before .before .before .before .before .bytes .ensures) (c .before .before .before .told .ensures .0) (c .before .before .before .told .ensures .1) (c .before .before .mix .ensures) (c .before .mix2 .ensures)
+    (part-given (l .at) _ (a .most) (now (a .input)) (c .before .before .before .before .before .before .before .before .before .before .before .before .before .least .ensures)) (l .inv .1) (l .inv .2) (c .before .before .before .before .before .before .before .before .before .bytes .ensures) (c .before .before .before .tale-of .ensures .0) (c .before .before .before .tale-of .ensures .1) (c .before .before .mix .ensures) (c .before .mix2 .ensures)
     (l .inv .3) (c .before .before .before .before .before .before .before .before .before .before .before .before .before .before .loop-test .taken) (omega arith) (c .if1 .taken))
 
 add-at : tie.Need-add-at Inv-loop μ-loop
@@ -86,7 +86,7 @@ add-at c =
     let l = c .before .before .before .before .before .before .before .before .before .before .before .before .before .before .before .loop in
     let a = c .before .before .before .before .before .before .before .before .before .before .before .before .before .before .before .before .before .before .before .before .args in
     let most = taken-left (now (a .line)) (now (a .up)) (a .most) (now (a .input)) (l .link) (l .line) (l .up) (l .sum) (l .at) _ _ _ _ _ _ _ _
-    (part-given (l .at) _ (a .most) (now (a .input)) (c .before .before .before .before .before .before .before .before .before .before .before .before .before .least .ensures)) (l .inv .1) (l .inv .2) (c .before .before .before .before .before .before .before .before .before .bytes .ensures) (c .before .before .before .told .ensures .0) (c .before .before .before .told .ensures .1) (c .before .before .mix .ensures) (c .before .mix2 .ensures) in
+    (part-given (l .at) _ (a .most) (now (a .input)) (c .before .before .before .before .before .before .before .before .before .before .before .before .before .least .ensures)) (l .inv .1) (l .inv .2) (c .before .before .before .before .before .before .before .before .before .bytes .ensures) (c .before .before .before .tale-of .ensures .0) (c .before .before .before .tale-of .ensures .1) (c .before .before .mix .ensures) (c .before .mix2 .ensures) in
     omega (arith, c .before .before .before .before .before .before .before .before .before .before .before .before .before .before .before .before .before .before .before .before .good .0 .0, most)
 
 loop-less : tie.Need-loop-less Inv-loop μ-loop
@@ -94,7 +94,7 @@ loop-less c =
     let l = c .before .before .before .before .before .before .before .before .before .before .before .before .before .before .before .loop in
     let a = c .before .before .before .before .before .before .before .before .before .before .before .before .before .before .before .before .before .before .before .before .args in
     let most = taken-left (now (a .line)) (now (a .up)) (a .most) (now (a .input)) (l .link) (l .line) (l .up) (l .sum) (l .at) _ _ _ _ _ _ _ _
-    (part-given (l .at) _ (a .most) (now (a .input)) (c .before .before .before .before .before .before .before .before .before .before .before .before .before .least .ensures)) (l .inv .1) (l .inv .2) (c .before .before .before .before .before .before .before .before .before .bytes .ensures) (c .before .before .before .told .ensures .0) (c .before .before .before .told .ensures .1) (c .before .before .mix .ensures) (c .before .mix2 .ensures) in
+    (part-given (l .at) _ (a .most) (now (a .input)) (c .before .before .before .before .before .before .before .before .before .before .before .before .before .least .ensures)) (l .inv .1) (l .inv .2) (c .before .before .before .before .before .before .before .before .before .bytes .ensures) (c .before .before .before .tale-of .ensures .0) (c .before .before .before .tale-of .ensures .1) (c .before .before .mix .ensures) (c .before .mix2 .ensures) in
     omega (arith, most)
 
 loop-again : tie.Need-loop-again Inv-loop μ-loop
@@ -102,7 +102,7 @@ loop-again c =
     let l = c .before .before .before .before .before .before .before .before .before .before .before .before .before .before .before .loop in
     let a = c .before .before .before .before .before .before .before .before .before .before .before .before .before .before .before .before .before .before .before .before .args in
     let most = taken-left (now (a .line)) (now (a .up)) (a .most) (now (a .input)) (l .link) (l .line) (l .up) (l .sum) (l .at) _ _ _ _ _ _ _ _
-    (part-given (l .at) _ (a .most) (now (a .input)) (c .before .before .before .before .before .before .before .before .before .before .before .before .before .least .ensures)) (l .inv .1) (l .inv .2) (c .before .before .before .before .before .before .before .before .before .bytes .ensures) (c .before .before .before .told .ensures .0) (c .before .before .before .told .ensures .1) (c .before .before .mix .ensures) (c .before .mix2 .ensures) in (
+    (part-given (l .at) _ (a .most) (now (a .input)) (c .before .before .before .before .before .before .before .before .before .before .before .before .before .least .ensures)) (l .inv .1) (l .inv .2) (c .before .before .before .before .before .before .before .before .before .bytes .ensures) (c .before .before .before .tale-of .ensures .0) (c .before .before .before .tale-of .ensures .1) (c .before .before .mix .ensures) (c .before .mix2 .ensures) in (
       omega (arith, most),
       omega arith,
       omega arith,
@@ -110,7 +110,7 @@ loop-again c =
       omega (arith, most),
       l .inv .5
           ∙ runs-on (now (a .line)) (now (a .up)) (a .most) (now (a .input)) (l .link) (l .line) (l .up) (l .sum) (l .at) _ _ _ _ _ _ _ _
-          (part-given (l .at) _ (a .most) (now (a .input)) (c .before .before .before .before .before .before .before .before .before .before .before .before .before .least .ensures)) (l .inv .1) (l .inv .2) (c .before .before .before .before .before .before .before .before .before .bytes .ensures) (c .before .before .before .told .ensures .0) (c .before .before .before .told .ensures .1) (c .before .before .mix .ensures) (c .before .mix2 .ensures)
+          (part-given (l .at) _ (a .most) (now (a .input)) (c .before .before .before .before .before .before .before .before .before .before .before .before .before .least .ensures)) (l .inv .1) (l .inv .2) (c .before .before .before .before .before .before .before .before .before .bytes .ensures) (c .before .before .before .tale-of .ensures .0) (c .before .before .before .tale-of .ensures .1) (c .before .before .mix .ensures) (c .before .mix2 .ensures)
           (l .inv .3) (c .before .before .before .before .before .before .before .before .before .before .before .before .before .before .loop-test .taken) (omega arith) (c .if1 .left),
     )
 
@@ -144,7 +144,7 @@ sarnaqel-runs-spec =
     part-bytes-start
     part-bytes-end
     bytes-requires
-    told-requires
+    tale-of-requires
     mix-requires
     mix-requires-2
     same-length

@@ -7,11 +7,11 @@ use borrow.Author.Needs.{needs}
 use Rattle.exports.proofs.runs.sarnaqel_ticks.Statement.{statement}
 use Rattle.exports.proofs.runs.sarnaqel_ticks.Tie as tie
 
-prepared-requires : tie.Need-prepared-requires
-prepared-requires c κs = search needs
+heard-fed-requires : tie.Need-heard-fed-requires
+heard-fed-requires c κs = search needs
 
-ticked-requires : tie.Need-ticked-requires
-ticked-requires c κs = search needs
+ticks-fed-requires : tie.Need-ticks-fed-requires
+ticks-fed-requires c κs = search needs
 
 same-length : tie.Need-same-length
 same-length c = search needs
@@ -22,8 +22,8 @@ same-length-2 c = search needs
 returns : tie.Need-returns
 returns c =
     let a = c .before .before .before .before .before .before .before .before .before .before .before .before .before .before .before .before .before .before .args in
-    ready-ticks _ (c .before .before .before .before .before .before .before .before .before .before .before .prepared .result) _ _ (now (a .line)) (now (a .up)) _ _ (a .n) _ (omega arith) (omega arith) (c .before .before .before .before .before .before .before .before .before .before .before .prepared .ensures) (c .before .before .before .before .ticked .ensures)
+    ready-ticks _ (c .before .before .before .before .before .before .before .before .before .before .before .prepared .result) _ _ (now (a .line)) (now (a .up)) _ _ (a .n) _ (omega arith) (omega arith) (c .before .before .before .before .before .before .before .before .before .before .before .heard-fed .ensures) (c .before .before .before .before .ticks-fed .ensures)
 
 pub sarnaqel-ticks-spec : {M : Type 1} → statement M
 sarnaqel-ticks-spec =
-    tie.close (tie.spec prepared-requires ticked-requires same-length same-length-2 returns)
+    tie.close (tie.spec heard-fed-requires ticks-fed-requires same-length same-length-2 returns)

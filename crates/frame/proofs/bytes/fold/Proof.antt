@@ -5,13 +5,13 @@ use Prim.Native.Nat.{_≤_, _-_}
 use native.Mathlib.Omega.{arith}
 use lib.ListN.{length, drop}
 use denote.Ref.{now}
-use Rattle.frame.specs.Bytes.{xorAll}
+use Rattle.frame.specs.Bytes.{fold}
 use Rattle.frame.proofs.Folds.{fold-end, fold-more}
 use Rattle.frame.proofs.bytes.fold.Statement.{statement}
 use Rattle.frame.proofs.bytes.fold.Tie as tie
 
 abbrev Inv-loop : tie.InvT-loop
-Inv-loop acc s a₀ i₀ a i = (i ≤ length s) × (xorAll acc s ≡ xorAll a (drop i s))
+Inv-loop acc s a₀ i₀ a i = (i ≤ length s) × (fold acc s ≡ fold a (drop i s))
 
 abbrev μ-loop : tie.MeasureT-loop
 μ-loop acc s a₀ i₀ a i = length s - i

@@ -11,21 +11,21 @@ use borrow.Author.Tests.{lt-ltb, le-ltb}
 use lib.ListN.{length, length-set}
 use lib.Seq.{paste, paste-zero, paste-suc}
 use denote.Ref.{now}
-use Rattle.frame.specs.Bytes.{Laid}
+use Rattle.frame.specs.Bytes.{Lay}
 use Rattle.frame.proofs.bytes.lay.Statement.{statement}
 use Rattle.frame.proofs.bytes.lay.Tie as tie
 
 module _ (src : List ℕ) (n : ℕ) (dst : List ℕ) (at : ℕ) where
-  short : length src < n → Laid src n dst at false dst
+  short : length src < n → Lay src n dst at false dst
   short h = record { answer = simp (lt-ltb (length src) n h); left = simp (lt-ltb (length src) n h) }
 
-  outside : n ≤ length src → length dst < at + n → Laid src n dst at false dst
+  outside : n ≤ length src → length dst < at + n → Lay src n dst at false dst
   outside hs hd =
       let s = le-ltb (length src) n hs in
       let d = lt-ltb (length dst) (at + n) hd in
       record { answer = simp (s, d); left = simp (s, d) }
 
-  laid : {dst′ : List ℕ} → n ≤ length src → at + n ≤ length dst → dst′ ≡ paste dst at src n → Laid src n dst at true dst′
+  laid : {dst′ : List ℕ} → n ≤ length src → at + n ≤ length dst → dst′ ≡ paste dst at src n → Lay src n dst at true dst′
   laid hs hd e =
       let s = le-ltb (length src) n hs in
       let d = le-ltb (length dst) (at + n) hd in

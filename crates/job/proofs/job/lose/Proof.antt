@@ -11,26 +11,26 @@ fail-requires c κs = search needs
 returns : tie.Need-returns
 returns c cause hunting = simp (le-ltb _ _ (c .before .if1 .taken), c .fail .ensures)
 
-back-off-requires : tie.Need-back-off-requires
-back-off-requires c κs = search needs
+backing-off-requires : tie.Need-backing-off-requires
+backing-off-requires c κs = search needs
 
 returns-2 : tie.Need-returns-2
 returns-2 c cause hunting =
-    simp (lt-ltb _ _ (c .before .before .if1 .left), eq-eqb _ _ (c .before .if2 .taken), c .back-off .ensures)
+    simp (lt-ltb _ _ (c .before .before .if1 .left), eq-eqb _ _ (c .before .if2 .taken), c .backing-off .ensures)
 
-back-off-requires-2 : tie.Need-back-off-requires-2
-back-off-requires-2 c κs = search needs
+backing-off-requires-2 : tie.Need-backing-off-requires-2
+backing-off-requires-2 c κs = search needs
 
 returns-3 : tie.Need-returns-3
 returns-3 c cause hunting =
-    simp (lt-ltb _ _ (c .before .before .before .if1 .left), ne-eqb _ _ (c .before .before .if2 .left), eq-eqb _ _ (c .before .if3 .taken), c .back-off2 .ensures)
+    simp (lt-ltb _ _ (c .before .before .before .if1 .left), ne-eqb _ _ (c .before .before .if2 .left), eq-eqb _ _ (c .before .if3 .taken), c .backing-off2 .ensures)
 
-back-off-requires-3 : tie.Need-back-off-requires-3
-back-off-requires-3 c κs = search needs
+backing-off-requires-3 : tie.Need-backing-off-requires-3
+backing-off-requires-3 c κs = search needs
 
 returns-4 : tie.Need-returns-4
 returns-4 c cause hunting =
-    simp (lt-ltb _ _ (c .before .before .before .if1 .left), ne-eqb _ _ (c .before .before .if2 .left), ne-eqb _ _ (c .before .if3 .left), c .back-off3 .ensures)
+    simp (lt-ltb _ _ (c .before .before .before .if1 .left), ne-eqb _ _ (c .before .before .if2 .left), ne-eqb _ _ (c .before .if3 .left), c .backing-off3 .ensures)
 
 pub lose-spec : {M : Type 1} → statement M
 lose-spec =
@@ -38,9 +38,9 @@ lose-spec =
     (tie.spec
     fail-requires
     returns
-    back-off-requires
+    backing-off-requires
     returns-2
-    back-off-requires-2
+    backing-off-requires-2
     returns-3
-    back-off-requires-3
+    backing-off-requires-3
     returns-4)

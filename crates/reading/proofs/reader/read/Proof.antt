@@ -79,8 +79,8 @@ shared-slice-read-measured-2 c = search needs
 shared-slice-read-measured-3 : tie.Need-shared-slice-read-measured-3
 shared-slice-read-measured-3 c = search needs
 
-measured-requires : tie.Need-measured-requires
-measured-requires c κs = search needs
+parts-of-requires : tie.Need-parts-of-requires
+parts-of-requires c κs = search needs
 
 returns-7 : tie.Need-returns-7
 returns-7 c =
@@ -93,7 +93,7 @@ returns-7 c =
       le-ltb _ _ (c .before .before .before .before .before .before .if6 .left),
       ← (simp add-sub-cancel at (c .before .before .before .before .fold .ensures)),
     )
-    (c .measured .ensures)
+    (c .parts-of .ensures)
 
 pub read-spec : {M : Type 1} → statement M
 read-spec =
@@ -118,5 +118,5 @@ read-spec =
     shared-slice-read-measured
     shared-slice-read-measured-2
     shared-slice-read-measured-3
-    measured-requires
+    parts-of-requires
     returns-7)

@@ -5,9 +5,9 @@ use Prim.Native.Nat.{ℕ, _+_, _-_, _≤_, _<_}
 use native.Mathlib.Omega.{arith}
 use denote.Ref.{now}
 use lib.ListN.{length, take, drop}
-use Rattle.reception.specs.declared.hearing.Heard.{Heard}
+use Rattle.hearing.specs.declared.hearing.Heard.{Heard}
 use Rattle.run.specs.declared.run.Reach.{Reach}
-use Rattle.run.specs.Run.{gone, walkedBy, kept}
+use Rattle.run.specs.Run.{gone, walked, kept}
 use Rattle.run.proofs.Turns.{part-length, walked-at, bodied-whole, bodied-part}
 use borrow.Author.Needs.{needs}
 use Rattle.run.proofs.run.body_on.Statement.{statement}
@@ -56,7 +56,7 @@ returns c =
     let l = c .before .before .before .before .before .before .before .left in
     let n = l .result in
     let e : i + n - i ≡ n = omega arith in
-    let x : w .result ≡ walkedBy (a .p) (take n (drop i bs)) = w .ensures .0 ∙ ap (λ (m : ℕ). walkedBy (a .p) (take m (drop i bs))) e in
+    let x : w .result ≡ walked (a .p) (take n (drop i bs)) = w .ensures .0 ∙ ap (λ (m : ℕ). walked (a .p) (take m (drop i bs))) e in
     let small : n ≤ a .p .size - a .p .at = omega (arith, l .ensures) in
     let fits : i + n ≤ length bs = omega (arith, l .ensures, st .pre .0 .there) in
     let g = c .gone .ensures ∙ ap (λ (h : Heard). gone h (i + n + 1)) (c .before .followed .ensures) in
@@ -79,7 +79,7 @@ sub-t21 c =
     let l = c .before .before .before .before .before .left in
     let n = l .result in
     let e : i + n - i ≡ n = omega arith in
-    let x : w .result ≡ walkedBy (a .p) (take n (drop i bs)) = w .ensures .0 ∙ ap (λ (m : ℕ). walkedBy (a .p) (take m (drop i bs))) e in
+    let x : w .result ≡ walked (a .p) (take n (drop i bs)) = w .ensures .0 ∙ ap (λ (m : ℕ). walked (a .p) (take m (drop i bs))) e in
     let small : n ≤ a .p .size - a .p .at = omega (arith, l .ensures) in
     let fits : i + n ≤ length bs = omega (arith, l .ensures, st .pre .0 .there) in
     omega (arith, l .ensures, walked-at (a .p) (take n (drop i bs)) x, st .pre .0 .there, c .before .if1 .left, part-length bs (a .r) (a .p) (st .pre .0) (st .pre .1) n small fits)
@@ -94,7 +94,7 @@ returns-2 c =
     let l = c .before .before .before .before .before .left in
     let n = l .result in
     let e : i + n - i ≡ n = omega arith in
-    let x : w .result ≡ walkedBy (a .p) (take n (drop i bs)) = w .ensures .0 ∙ ap (λ (m : ℕ). walkedBy (a .p) (take m (drop i bs))) e in
+    let x : w .result ≡ walked (a .p) (take n (drop i bs)) = w .ensures .0 ∙ ap (λ (m : ℕ). walked (a .p) (take m (drop i bs))) e in
     let small : n ≤ a .p .size - a .p .at = omega (arith, l .ensures) in
     let fits : i + n ≤ length bs = omega (arith, l .ensures, st .pre .0 .there) in
     let some : 0 < n = omega (arith, st .pre .0 .there, c .before .if1 .left) in

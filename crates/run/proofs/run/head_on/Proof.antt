@@ -3,7 +3,7 @@
 use mathlib.Core.Path.{ap, _∙_}
 use Prim.Native.Nat.{_+_}
 use denote.Ref.{now}
-use Rattle.reception.specs.declared.hearing.Heard.{Heard}
+use Rattle.hearing.specs.declared.hearing.Heard.{Heard}
 use Rattle.run.specs.declared.run.Reach.{Reach}
 use Rattle.run.specs.Run.{gone}
 use Rattle.run.proofs.Turns.{headed-one}

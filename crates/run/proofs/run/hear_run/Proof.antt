@@ -8,8 +8,8 @@ use native.Mathlib.Omega.{arith}
 use borrow.Author.Needs.{needs}
 use denote.Ref.{now}
 use lib.ListN.{length}
-use Rattle.run.specs.Run.{newsByte, onFrom, far}
-use Rattle.frame.proofs.Picks.{no}
+use Rattle.run.specs.Run.{hasNews, onFrom, far}
+use Rattle.refusals.proofs.Picks.{no}
 use Rattle.run.proofs.Turns.{on-over}
 use Rattle.run.proofs.run.hear_run.Statement.{statement}
 use Rattle.run.proofs.run.hear_run.Tie as tie
@@ -17,7 +17,7 @@ use Rattle.run.proofs.run.hear_run.Tie as tie
 abbrev Inv-loop : tie.InvT-loop
 Inv-loop bytes body₀ reach₀ body reach =
     (reach .taken ≤ length bytes)
-    × (newsByte (reach .event) ≡ false)
+    × (hasNews (reach .event) ≡ false)
     × (length body ≡ length body₀)
     × (length body₀ ≡ 254 → onFrom (far reach₀ body₀) bytes ≡ onFrom (far reach body) bytes)
 

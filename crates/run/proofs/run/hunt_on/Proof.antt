@@ -6,7 +6,7 @@ use native.Mathlib.Omega.{arith}
 use borrow.Author.Tests.{ltb-true}
 use denote.Ref.{now}
 use lib.ListN.{length}
-use Rattle.reception.specs.declared.hearing.Heard.{Heard}
+use Rattle.hearing.specs.declared.hearing.Heard.{Heard}
 use Rattle.run.specs.declared.run.Reach.{Reach}
 use Rattle.run.specs.Run.{gone}
 use Rattle.run.proofs.Turns.{hunts-one, hunts-all, hunts-head}

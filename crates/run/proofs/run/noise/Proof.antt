@@ -7,7 +7,7 @@ use native.Mathlib.Omega.{arith}
 use borrow.Author.Needs.{needs}
 use denote.Ref.{now}
 use lib.ListN.{length, drop}
-use Rattle.reception.specs.declared.hearing.Event.{Event}
+use Rattle.hearing.specs.declared.hearing.Event.{Event}
 use Rattle.run.specs.Run.{hearFrom, skipped}
 use Rattle.run.proofs.Turns.{noise-more}
 use Rattle.run.proofs.run.noise.Statement.{statement}

@@ -9,7 +9,7 @@ use borrow.Author.Needs.{needs}
 use denote.Ref.{now}
 use lib.ListN.{length, take, drop, set, getD, length-set, length-drop}
 use lib.Seq.{take-all}
-use Rattle.frame.specs.Bytes.{xorAll}
+use Rattle.frame.specs.Bytes.{fold}
 use Rattle.frame.proofs.Folds.{fold-more}
 use Rattle.run.specs.Run.{kept}
 use Rattle.run.proofs.Turns.{kept-more, kept-rest}
@@ -19,7 +19,7 @@ use Rattle.run.proofs.run.walk.Tie as tie
 abbrev Inv-loop : tie.InvT-loop
 Inv-loop sum s at body₀ n first acc₀ j₀ body acc j =
     (j ≤ n)
-    × (xorAll sum s ≡ xorAll acc (drop j s))
+    × (fold sum s ≡ fold acc (drop j s))
     × (kept body₀ at s ≡ kept body (at + j) (drop j s))
     × (length body ≡ length body₀)
 
@@ -81,9 +81,9 @@ returns c =
     let l = c .before .before .before .loop in
     let f = c .before .before .before .before .fit in
     let s = now (a .s) in
-    let q : c .fold .result ≡ xorAll (l .acc) (take (length s - f .result) (drop (f .result) s)) = c .fold .ensures in
+    let q : c .fold .result ≡ fold (l .acc) (take (length s - f .result) (drop (f .result) s)) = c .fold .ensures in
     let e : l .j ≡ f .result = le-antisymm (l .inv .0) (c .before .before .loop-test .left) in (
-      q ∙ ap (λ (t : List ℕ). xorAll (l .acc) t) (take-all (length s - f .result) (drop (f .result) s) (simp length-drop (omega arith))) ∙ ap (λ (k : ℕ). xorAll (l .acc) (drop k (now (a .s)))) (sym e) ∙ sym (l .inv .1),
+      q ∙ ap (λ (t : List ℕ). fold (l .acc) t) (take-all (length s - f .result) (drop (f .result) s) (simp length-drop (omega arith))) ∙ ap (λ (k : ℕ). fold (l .acc) (drop k (now (a .s)))) (sym e) ∙ sym (l .inv .1),
       λ z.
           sym
           (l .inv .2

@@ -9,11 +9,11 @@ use Rattle.sending.proofs.events.on_single.Tie as tie
 enum-known-job : tie.Need-enum-known-job
 enum-known-job c = search needs
 
-answered-requires : tie.Need-answered-requires
-answered-requires c κs = search needs
+on-answer-requires : tie.Need-on-answer-requires
+on-answer-requires c κs = search needs
 
 returns : tie.Need-returns
-returns c = simp (c .before .before .job .given .1, c .answered .ensures)
+returns c = simp (c .before .before .job .given .1, c .on-answer .ensures)
 
 goes-on-requires : tie.Need-goes-on-requires
 goes-on-requires c κs = search needs
@@ -23,4 +23,4 @@ returns-2 c = c .goes-on .ensures ∙ no-wait (c .before .before .args .single) 
 
 pub on-single-spec : {M : Type 1} → statement M
 on-single-spec =
-    tie.close (tie.spec enum-known-job answered-requires returns goes-on-requires returns-2)
+    tie.close (tie.spec enum-known-job on-answer-requires returns goes-on-requires returns-2)

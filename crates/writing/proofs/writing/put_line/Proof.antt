@@ -9,7 +9,7 @@ use lib.ListN.{length}
 use borrow.Author.Tests.{lt-ltb, le-ltb}
 use denote.Ref.{now}
 use Rattle.frame.specs.Bytes.{over}
-use Rattle.report.specs.Report.{replyBytes}
+use Rattle.reception.specs.Said.{replyBytes}
 use Rattle.writing.proofs.Puts.{reply-short, put-behind}
 use borrow.Author.Needs.{needs}
 use Rattle.writing.proofs.writing.put_line.Statement.{statement}

@@ -1,0 +1,95 @@
+-- `answer` meets its contract: the ones summed are the number of supported functions.
+-- Assumes nothing.
+use mathlib.Core.Path.{_≡_, ap, _∙_}
+use Prim.Native.Nat.{_≤_}
+use native.Mathlib.Omega.{arith}
+use lib.ListN.{length, length-drop}
+use denote.Ref.{now}
+use Rattle.masks.specs.Mask.{onesIn}
+use Rattle.capabilities.specs.Capabilities.{functionMask, supported}
+use Rattle.masks.proofs.Layouts.{rest, bytes-from}
+use Rattle.masks.proofs.Masks.{ones-supported}
+use Rattle.capabilities.proofs.Layouts.{answer-by}
+use borrow.Author.Needs.{needs}
+use Rattle.capabilities.proofs.capabilities_of.Statement.{statement}
+use Rattle.capabilities.proofs.capabilities_of.Tie as tie
+
+shared-slice-read-t3 : tie.Need-shared-slice-read-t3
+shared-slice-read-t3 c = search needs
+
+shared-slice-read-t5 : tie.Need-shared-slice-read-t5
+shared-slice-read-t5 c = search needs
+
+shared-slice-read-joined : tie.Need-shared-slice-read-joined
+shared-slice-read-joined c = search needs
+
+shared-slice-read-joined-2 : tie.Need-shared-slice-read-joined-2
+shared-slice-read-joined-2 c = search needs
+
+word-requires : tie.Need-word-requires
+word-requires c κs = search needs
+
+shared-slice-read-joined-3 : tie.Need-shared-slice-read-joined-3
+shared-slice-read-joined-3 c = search needs
+
+shared-slice-read-joined-4 : tie.Need-shared-slice-read-joined-4
+shared-slice-read-joined-4 c = search needs
+
+word-requires-2 : tie.Need-word-requires-2
+word-requires-2 c κs = search needs
+
+shared-slice-read-joined-5 : tie.Need-shared-slice-read-joined-5
+shared-slice-read-joined-5 c = search needs
+
+shared-slice-read-joined-6 : tie.Need-shared-slice-read-joined-6
+shared-slice-read-joined-6 c = search needs
+
+word-requires-3 : tie.Need-word-requires-3
+word-requires-3 c κs = search needs
+
+sub-ones : tie.Need-sub-ones
+sub-ones c = search needs
+
+part-ones-start : tie.Need-part-ones-start
+part-ones-start c = search needs
+
+part-ones-end : tie.Need-part-ones-end
+part-ones-end c = search needs
+
+ones-in-requires : tie.Need-ones-in-requires
+ones-in-requires c κs = search needs
+
+returns : tie.Need-returns
+returns c =
+    let s = c .before .before .before .before .before .before .before .before .before .before .before .before .before .before in
+    let body = now (s .args .body) in
+    let few : length (functionMask body) ≤ 32 = omega (arith, length-drop 10 body) in
+    let count : c .ones .result ≡ supported body =
+    c .ones-in .ensures ∙ ap onesIn (rest 10 body)
+    ∙ ones-supported (functionMask body) (bytes-from 10 body (λ i. c .before .before .before .before .before .before .before .before .before .before .before .before .before .shared-slice-known .given i .fits)) few (s .pre .clear) in
+    answer-by
+    (c .before .before .before .before .before .before .before .before .word .ensures)
+    (c .before .before .before .before .before .word2 .ensures)
+    (c .before .before .word3 .ensures)
+    count
+
+pub capabilities-of-spec : {M : Type 1} → statement M
+capabilities-of-spec =
+    tie.close
+    (tie.spec
+    shared-slice-read-t3
+    shared-slice-read-t5
+    shared-slice-read-joined
+    shared-slice-read-joined-2
+    word-requires
+    shared-slice-read-joined-3
+    shared-slice-read-joined-4
+    word-requires-2
+    shared-slice-read-joined-5
+    shared-slice-read-joined-6
+    word-requires-3
+    sub-ones
+    part-ones-start
+    part-ones-end
+    ones-in-requires
+    returns)

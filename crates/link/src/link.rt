@@ -1,0 +1,73 @@
+// The link's state, its timings, and opening.
+use job::Job;
+use hearing::Hearing;
+use step::Core;
+use units::Millis;
+ghost use mathlib.Core.Path.{_≡_};
+ghost use Rattle.link.specs.Link.{freshLink, timings};
+
+// A link comes only from opening or an earlier call: no other crate can make one.
+pub struct Link {
+    pub(crate) core: Core,
+    // The body of the half-received frame, and the frame being sent.
+    pub(crate) body: [u8; 254],
+    pub(crate) frame: [u8; 257],
+}
+
+// The protocol's timings, together.
+pub struct Timings {
+    pub frame_time: Millis,
+    pub ack_wait: Millis,
+    pub response_wait: Millis,
+    // After copies 1, 2 and 3.
+    pub back_off_1: Millis,
+    pub back_off_2: Millis,
+    pub back_off_3: Millis,
+}
+
+impl Link {
+    // A frame may take so long from its first byte (section 4).
+    pub const FRAME_TIME: Millis = Hearing::FRAME_TIME;
+    // A copy is lost when it has waited so long for its ACK (section 5).
+    pub const ACK_WAIT: Millis = Job::ACK_WAIT;
+    // A session waits so long for its response (section 6).
+    pub const RESPONSE_WAIT: Millis = Job::RESPONSE_WAIT;
+    // The back-offs after copies 1, 2 and 3 (section 5).
+    pub const BACK_OFF_1: Millis = Job::BACK_OFF_1;
+
+    pub const BACK_OFF_2: Millis = Job::BACK_OFF_2;
+
+    pub const BACK_OFF_3: Millis = Job::BACK_OFF_3;
+
+    // Opening: a fresh link, and nothing is put out.
+    pub fn open() -> Self
+        ensures { λ r. ⌜ r ≡ freshLink ⌝ }
+    {
+        let core = Core::fresh();
+        Link {
+            core: core,
+            body: [0; 254],
+            frame: [0; 257],
+        }
+    }
+
+    // The six constants. Each is document 01's number by this promise.
+    pub fn timings() -> Timings
+        ensures { λ r. ⌜ r ≡ timings ⌝ }
+    {
+        let frame_time = Link::FRAME_TIME;
+        let ack_wait = Link::ACK_WAIT;
+        let response_wait = Link::RESPONSE_WAIT;
+        let back_off_1 = Link::BACK_OFF_1;
+        let back_off_2 = Link::BACK_OFF_2;
+        let back_off_3 = Link::BACK_OFF_3;
+        Timings {
+            frame_time: frame_time,
+            ack_wait: ack_wait,
+            response_wait: response_wait,
+            back_off_1: back_off_1,
+            back_off_2: back_off_2,
+            back_off_3: back_off_3,
+        }
+    }
+}

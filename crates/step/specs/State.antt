@@ -1,8 +1,0 @@
--- Section 5: opening gives a fresh link. Its numbers.
--- Assumes nothing.
-use Rattle.reception.specs.declared.hearing.Hearing.the-variants.{Hunting}
-use Rattle.job.specs.declared.job.Job.the-variants.{Idle}
-use Rattle.step.specs.declared.state.Core.{Core}
-
-abbrev pub freshCore : Core
-freshCore = record { hearing = Hunting; job = Idle; bad = 0; size = 0 }

@@ -1,0 +1,191 @@
+// One step of the link, on numbers alone: what reception says of an event, the run of bad sums, and the job's act on it.
+// Hearing is no part of it: that way it stays in registers while a call decides.
+use job::Act;
+use job::Asking;
+use job::Job;
+use report::Reset;
+use report::Sending;
+use report::Session;
+use job::is_open;
+use job::on_abort;
+use job::on_tick;
+use job::start;
+use hearing::Event;
+use report::Reception;
+use reception::Awaited;
+use reception::Reply;
+use reception::Said;
+use reception::Sums;
+use reception::said_on;
+use reception::sums_on;
+use sending::awaited_by;
+use sending::on_event;
+use sending::on_restart;
+ghost use mathlib.Core.Path.{_≡_};
+ghost use Prim.Native.Nat.{ℕ};
+ghost use Rattle.rules.specs.Rules.{base};
+ghost use Rattle.job.specs.Job as jobs;
+ghost use Rattle.sending.specs.Events as events;
+ghost use Rattle.job.specs.declared.job.Job.the-variants as job;
+ghost use Rattle.step.specs.Decide as spec;
+
+// What a call decides, before a lent byte is written; hearing and the held frame's length stand beside it.
+pub struct Outcome {
+    pub job: Job,
+    // The run of bad sums.
+    pub bad: u8,
+    pub reception: Reception,
+    pub sending: Sending,
+    pub session: Session,
+    pub reset: Reset,
+    // The single byte put out, and whether a copy follows it.
+    pub reply: Reply,
+    pub copy: bool,
+    // The number of body bytes handed up.
+    pub up: u8,
+}
+
+// The reset of a call: the bad sums' or the sender's.
+pub fn either(sums: Reset, sender: Reset) -> Reset
+    ensures { λ r. ⌜ r ≡ spec.either sums sender ⌝ }
+{
+    match sums {
+        Reset::Nothing => sender,
+        _ => sums,
+    }
+}
+
+fn decided(said: Said, sums: Sums, act: Act) -> Outcome
+    ensures { λ r. ⌜ r ≡ spec.decided said sums act ⌝ }
+{
+    let job = act.job;
+    let reception = said.reception;
+    let sending = act.sending;
+    let session = act.session;
+    let reply = said.reply;
+    let bad_sums = sums.reset;
+    let delivery = act.reset;
+    let reset = either(bad_sums, delivery);
+    Outcome {
+        job: job,
+        bad: sums.bad,
+        reception: reception,
+        sending: sending,
+        session: session,
+        reset: reset,
+        reply: reply,
+        copy: act.copy,
+        up: said.up,
+    }
+}
+
+// Reception first, then the sender and the session.
+fn decide_open(job: Job, bad: u8, size: u16, event: Event) -> Outcome
+    ensures { λ r. ⌜ r ≡ spec.decide base size event job bad ⌝ }
+{
+    let awaited = awaited_by(job);
+    let said = said_on(event, awaited);
+    let sums = sums_on(event, bad);
+    let act = on_event(size, event, job);
+    decided(said, sums, act)
+}
+
+// With no job open, 06, 15 and 18 are stray, and nothing else concerns the sender.
+fn stray_on(event: Event) -> Sending
+    ensures { λ r. ⌜ ((size : ℕ) → events.onEvent base size event job.Idle ≡ jobs.goesOn job.Idle r) ⌝ }
+{
+    match event {
+        Event::Alone(_) => Sending::Stray,
+        _ => Sending::Nothing,
+    }
+}
+
+// The same with no job open: short, and what a run of bytes mostly meets.
+fn decide_idle(bad: u8, event: Event) -> Outcome
+    ensures { λ r. ⌜ ((size : ℕ) → r ≡ spec.decide base size event job.Idle bad) ⌝ }
+{
+    let said = said_on(event, Awaited::Nothing);
+    let sums = sums_on(event, bad);
+    let sending = stray_on(event);
+    let reception = said.reception;
+    let reply = said.reply;
+    let reset = sums.reset;
+    Outcome {
+        job: Job::Idle,
+        bad: sums.bad,
+        reception: reception,
+        sending: sending,
+        session: Session::Nothing,
+        reset: reset,
+        reply: reply,
+        copy: false,
+        up: said.up,
+    }
+}
+
+// What an event decides, by whether a job is open.
+pub fn decide(job: Job, bad: u8, size: u16, event: Event) -> Outcome
+    ensures { λ r. ⌜ r ≡ spec.decide base size event job bad ⌝ }
+{
+    if is_open(job) {
+        return decide_open(job, bad, size, event);
+    }
+    decide_idle(bad, event)
+}
+
+// An act with which reception has this much to say, and no byte of its own.
+fn acted(reception: Reception, bad: u8, act: Act) -> Outcome
+    ensures { λ r. ⌜ r ≡ spec.acted reception bad act ⌝ }
+{
+    let said = Said {
+        reception: reception,
+        reply: Reply::Silent,
+        up: 0,
+    };
+    let sums = Sums {
+        bad: bad,
+        reset: Reset::Nothing,
+    };
+    decided(said, sums, act)
+}
+
+// A tick, by what it was to hearing. (Of hearing a tick, no event of a byte comes.)
+pub fn decide_tick(job: Job, bad: u8, size: u16, event: Event) -> Outcome
+    ensures { λ r. ⌜ r ≡ spec.decide base size event job bad ⌝ }
+{
+    match event {
+        Event::TickHunting => acted(Reception::Nothing, bad, on_tick(size, true, job)),
+        Event::TickInside => acted(Reception::Nothing, bad, on_tick(size, false, job)),
+        Event::Aborted => acted(Reception::Abort, bad, on_abort(size, job)),
+        _ => decide_open(job, bad, size, event),
+    }
+}
+
+// An accepted send or session: copy 1 goes out if hunting, else it is due.
+pub fn opening(hunting: bool, asking: Asking, bad: u8) -> Outcome
+    ensures { λ r. ⌜ r ≡ spec.opening hunting asking bad ⌝ }
+{
+    let act = start(hunting, asking, 0);
+    acted(Reception::Nothing, bad, act)
+}
+
+// Restart: 15 is put out, and an open send or session is abandoned.
+pub fn restarting(job: Job) -> Outcome
+    ensures { λ r. ⌜ r ≡ spec.restarting job ⌝ }
+{
+    let act = on_restart(job);
+    let sending = act.sending;
+    let session = act.session;
+    let fresh = Job::Idle;
+    Outcome {
+        job: fresh,
+        bad: 0,
+        reception: Reception::Nothing,
+        sending: sending,
+        session: session,
+        reset: Reset::Nothing,
+        reply: Reply::Nak,
+        copy: false,
+        up: 0,
+    }
+}
