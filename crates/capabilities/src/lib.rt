@@ -1,7 +1,7 @@
 // Capabilities RES, command 07 (document 01, section 8; 002, 7.3).
-use refusals::Refusal;
 use masks::is_marked;
 use masks::is_response;
+use refusals::Refusal;
 ghost use mathlib.Core.Path.{_≡_};
 ghost use Prim.Native.Nat.{_≤_};
 ghost use lib.ListN.{length};

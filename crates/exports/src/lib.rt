@@ -1,5 +1,5 @@
 // What other languages call: functions on numbers and byte slices under plain C names. The measuring of bench/ links them.
 mod counts;
 mod frames;
-mod runs;
 mod numbers;
+mod runs;

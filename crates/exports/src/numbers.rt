@@ -1,11 +1,11 @@
 // What the calls of a run told, as one number.
-use report::Reset;
-use report::Sending;
-use report::Session;
 use link::Answer;
 use link::RunAnswer;
 use report::Reception;
 use report::Report;
+use report::Reset;
+use report::Sending;
+use report::Session;
 ghost use mathlib.Core.Path.{_≡_};
 ghost use Rattle.exports.specs.Numbers as spec;
 

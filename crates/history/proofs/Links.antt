@@ -13,7 +13,7 @@ use Rattle.hearing.specs.Hearing.{hearByte, hearTick}
 use Rattle.job.specs.Job.{still}
 use Rattle.sending.specs.Events.{onSingle, awaits, copiesOf, onEvent, awaitedBy}
 use Rattle.report.specs.Report.{newsReception, newsSending}
-use Rattle.step.specs.Decide.{decided}
+use Rattle.step.specs.Deciding.{decided}
 use Rattle.link.specs.Out.{Out, Taken, out, byteBy, byteOut, tickOut, news, quiet, runFrom, runOut, heardOut}
 use Rattle.hearing.specs.declared.hearing.Hearing.{Hearing}
 use Rattle.hearing.specs.declared.hearing.Single.{Single}

@@ -15,7 +15,7 @@ use Rattle.link.specs.declared.calls.RunAnswer.the-variants as run
 use Rattle.link.specs.declared.calls.Ran.{Ran}
 
 -- A refusal returns its number alone, and hands the link back unchanged with it.
-abbrev pub onAnswer : Checked → Out → Link → Answered
+abbrev pub answered : Checked → Out → Link → Answered
 answered Passes o l = record { link = o .link; answer = answer.Done (outReport o) }
 answered (Refuses k) o l = record { link = l; answer = answer.Refused k }
 

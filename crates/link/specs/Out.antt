@@ -23,8 +23,8 @@ use Rattle.report.specs.declared.Sending.{Sending}
 use Rattle.report.specs.declared.Session.{Session}
 use Rattle.report.specs.declared.Report.{Report}
 use Rattle.link.specs.declared.link.Link.{Link}
-use Rattle.step.specs.declared.decide.Outcome.{Outcome}
-use Rattle.step.specs.Decide.{decide, acted, opening, restarting}
+use Rattle.step.specs.declared.deciding.Outcome.{Outcome}
+use Rattle.step.specs.Deciding.{decide, acted, opening, restarting}
 use Rattle.step.specs.declared.core.Core.{Core}
 
 -- what an accepted call gives: the next link, the four parts, the bytes for the line and those handed up

@@ -1,6 +1,6 @@
 // The link's state, its timings, and opening.
-use job::Job;
 use hearing::Hearing;
+use job::Job;
 use step::Core;
 use units::Millis;
 ghost use mathlib.Core.Path.{_≡_};

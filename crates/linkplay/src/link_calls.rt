@@ -1,12 +1,12 @@
 // The calls on the link, each with its line of output.
 use crate::words::is_nothing;
 use crate::words::put_parts;
-use refusals::Refusal;
 use link::Answer;
 use link::Answered;
 use link::Link;
 use link::Ran;
 use link::RunAnswer;
+use refusals::Refusal;
 use report::Report;
 use script::LinkVerb;
 use script::behind;
@@ -162,7 +162,13 @@ fn put_report(report: Report, line: &[u8], up: &[u8], out: &mut [u8], waiting: u
     put_front(up, report.up as usize, out, d)
 }
 
-fn put_outcome(outcome: LineAnswer, line: &[u8], up: &[u8], out: &mut [u8], waiting: usize) -> usize {
+fn put_outcome(
+    outcome: LineAnswer,
+    line: &[u8],
+    up: &[u8],
+    out: &mut [u8],
+    waiting: usize,
+) -> usize {
     match outcome {
         LineAnswer::Refused(refusal) => put_refused(refusal, out, waiting),
         LineAnswer::Done(report) => put_report(report, line, up, out, waiting),

@@ -1,9 +1,9 @@
 // The words of a report (section 7 of document 01). Each part has a list of words, and each of its values a place in it.
+use report::Reception;
+use report::Report;
 use report::Reset;
 use report::Sending;
 use report::Session;
-use report::Reception;
-use report::Report;
 use script::numbered;
 use script::plain;
 use script::put;

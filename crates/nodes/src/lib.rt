@@ -1,7 +1,7 @@
 // Node list RES, command 02 (document 01, section 8; 002, 7.4).
-use refusals::Refusal;
 use masks::is_marked;
 use masks::is_response;
+use refusals::Refusal;
 ghost use mathlib.Core.Path.{_≡_};
 ghost use Prim.Native.Nat.{_≤_};
 ghost use lib.ListN.{length};

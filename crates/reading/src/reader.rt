@@ -1,6 +1,6 @@
 // Reading a whole frame (sections 2 and 3).
-use refusals::Refusal;
 use frame::fold;
+use refusals::Refusal;
 ghost use mathlib.Core.Path.{_≡_};
 ghost use Prim.Native.Nat.{_≤_};
 ghost use Rattle.reading.specs.Reader as spec;

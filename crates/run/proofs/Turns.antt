@@ -161,7 +161,7 @@ headed-one bytes r clock c e x body =
 pub hunts-head : (bytes : List ℕ) (r : Reach) → Quiet bytes r → r .hearing ≡ Hunting → (n : ℕ) → Noise bytes (r .taken) n → (body : List ℕ)
     → n + 1 < length bytes → getD bytes n 0 ≡ 1 → {q : Reach} → q ≡ gone (measured 0 (getD bytes (n + 1) 0)) (n + 2) → Onward bytes r body q body
 hunts-head bytes r c e n z body h one x =
-    let unheard : Reach = gone (heard (Head 0) Inside) (n + 1) in
+    let start : Reach = gone (heard (Head 0) Inside) (n + 1) in
     let s = hunts-one bytes r c e n z body (omega arith) {q = start} (ap (λ (b : ℕ). gone (hunted b) (n + 1)) (sym one)) in
     let two : n + 2 ≡ n + 1 + 1 = omega arith in
     let t = headed-one bytes start 0 (record { there = h; quiet = refl }) refl (x ∙ ap (λ (k : ℕ). gone (measured 0 (getD bytes (n + 1) 0)) k) two) body in

@@ -19,7 +19,7 @@ use Rattle.job.specs.Job.{goesOn, still, putOut, fail}
 use Rattle.job.specs.Ticks.{onTick}
 use Rattle.reception.specs.Said.{saidOn}
 use Rattle.link.specs.Link.{noBody, noFrame}
-use Rattle.step.specs.Decide.{decided}
+use Rattle.step.specs.Deciding.{decided}
 use Rattle.link.specs.Out.{Out, out, byteOut, tickOut, openOut}
 use Rattle.hearing.specs.declared.hearing.Hearing.{Hearing}
 use Rattle.hearing.specs.declared.hearing.Hearing.the-variants.{Hunting, Head}

@@ -11,8 +11,8 @@ use crate::printing::put_named;
 use crate::printing::put_refused;
 use crate::verb::FrameVerb;
 use frame::Built;
-use refusals::Refusal;
 use reading::Reading;
+use refusals::Refusal;
 
 // The line of a call without a lent buffer that was refused.
 pub fn put_no(name: &[u8], refusal: Refusal, out: &mut [u8], waiting: usize) -> usize {

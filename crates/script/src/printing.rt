@@ -1,8 +1,8 @@
 // The output: text waits in one buffer, which is written when it is full and at the end.
 use crate::order::behind;
 use crate::order::word_end;
-use refusals::Refusal;
 use libc::STDOUT_FILENO;
+use refusals::Refusal;
 
 // A word of a list, by its place in it, and the number behind it where it has one.
 pub struct Word {
@@ -145,5 +145,10 @@ pub fn put_end(is_spilled: bool, out: &mut [u8], waiting: usize) -> usize {
 }
 
 pub fn put_refused(refusal: Refusal, out: &mut [u8], waiting: usize) -> usize {
-    put_counted(b" refused=", refusals::number_of(refusal) as u64, out, waiting)
+    put_counted(
+        b" refused=",
+        refusals::number_of(refusal) as u64,
+        out,
+        waiting,
+    )
 }

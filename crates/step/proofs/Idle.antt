@@ -12,7 +12,7 @@ use Rattle.report.specs.declared.Reset.the-variants as reset
 use Rattle.report.specs.declared.Sending.the-variants as sending
 use Rattle.job.specs.Job.{goesOn, isOpen}
 use Rattle.sending.specs.Events.{onEnd}
-use Rattle.step.specs.Decide.{either}
+use Rattle.step.specs.Deciding.{either}
 
 -- with no job open no reset is the sender's
 pub either-none : (x : Reset) → either x reset.Nothing ≡ x

@@ -17,10 +17,10 @@ use Rattle.rules.specs.Rules.{base}
 use Rattle.report.specs.declared.Reset.{Reset}
 use Rattle.step.specs.declared.checks.Checked.{Checked}
 use Rattle.step.specs.declared.core.Core.{Core}
-use Rattle.step.specs.declared.decide.Outcome.{Outcome}
+use Rattle.step.specs.declared.deciding.Outcome.{Outcome}
 use Rattle.step.specs.Checks.{lacksRoom, sendChecks, sessionChecks}
 use Rattle.step.specs.Core.{freshCore}
-use Rattle.step.specs.Decide.{either, decide, opening, restarting}
+use Rattle.step.specs.Deciding.{either, decide, opening, restarting}
 
 pub lacks-room-determined : (line up : ℕ) {r q : Bool} → r ≡ lacksRoom line up → q ≡ lacksRoom line up → r ≡ q
 lacks-room-determined line up = fixed

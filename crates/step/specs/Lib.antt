@@ -1,3 +1,3 @@
 pub mod Core
-pub mod Decide
+pub mod Deciding
 pub mod Checks

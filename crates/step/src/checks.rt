@@ -1,7 +1,7 @@
 // The checks of the link calls (section 3), in their order: the first that is met refuses.
-use refusals::Refusal;
 use job::Job;
 use job::is_open;
+use refusals::Refusal;
 ghost use mathlib.Core.Path.{_≡_};
 ghost use Rattle.step.specs.Checks.{lacksRoom, sendChecks, sessionChecks};
 

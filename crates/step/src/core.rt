@@ -1,6 +1,6 @@
 // The numbers of a link: all of it but the half-received body and the held frame.
-use job::Job;
 use hearing::Hearing;
+use job::Job;
 ghost use mathlib.Core.Path.{_≡_};
 ghost use Rattle.step.specs.Core.{freshCore};
 

@@ -1,8 +1,8 @@
 // Set Timeouts, command 06, and its RES (document 01, section 8; 002, 7.5).
 use frame::Built;
-use refusals::Refusal;
 use frame::build;
 use masks::is_response;
+use refusals::Refusal;
 use units::Converted;
 use units::Millis;
 use units::Ticks10;

@@ -20,41 +20,41 @@ shared-slice-read-t3 c = search needs
 shared-slice-read-t5 : tie.Need-shared-slice-read-t5
 shared-slice-read-t5 c = search needs
 
-shared-slice-read-joined : tie.Need-shared-slice-read-joined
-shared-slice-read-joined c = search needs
+shared-slice-read-word : tie.Need-shared-slice-read-word
+shared-slice-read-word c = search needs
 
-shared-slice-read-joined-2 : tie.Need-shared-slice-read-joined-2
-shared-slice-read-joined-2 c = search needs
+shared-slice-read-word-2 : tie.Need-shared-slice-read-word-2
+shared-slice-read-word-2 c = search needs
 
 word-requires : tie.Need-word-requires
 word-requires c κs = search needs
 
-shared-slice-read-joined-3 : tie.Need-shared-slice-read-joined-3
-shared-slice-read-joined-3 c = search needs
+shared-slice-read-word-3 : tie.Need-shared-slice-read-word-3
+shared-slice-read-word-3 c = search needs
 
-shared-slice-read-joined-4 : tie.Need-shared-slice-read-joined-4
-shared-slice-read-joined-4 c = search needs
+shared-slice-read-word-4 : tie.Need-shared-slice-read-word-4
+shared-slice-read-word-4 c = search needs
 
 word-requires-2 : tie.Need-word-requires-2
 word-requires-2 c κs = search needs
 
-shared-slice-read-joined-5 : tie.Need-shared-slice-read-joined-5
-shared-slice-read-joined-5 c = search needs
+shared-slice-read-word-5 : tie.Need-shared-slice-read-word-5
+shared-slice-read-word-5 c = search needs
 
-shared-slice-read-joined-6 : tie.Need-shared-slice-read-joined-6
-shared-slice-read-joined-6 c = search needs
+shared-slice-read-word-6 : tie.Need-shared-slice-read-word-6
+shared-slice-read-word-6 c = search needs
 
 word-requires-3 : tie.Need-word-requires-3
 word-requires-3 c κs = search needs
 
-sub-ones : tie.Need-sub-ones
-sub-ones c = search needs
+sub-ones-in : tie.Need-sub-ones-in
+sub-ones-in c = search needs
 
-part-ones-start : tie.Need-part-ones-start
-part-ones-start c = search needs
+part-ones-in-start : tie.Need-part-ones-in-start
+part-ones-in-start c = search needs
 
-part-ones-end : tie.Need-part-ones-end
-part-ones-end c = search needs
+part-ones-in-end : tie.Need-part-ones-in-end
+part-ones-in-end c = search needs
 
 ones-in-requires : tie.Need-ones-in-requires
 ones-in-requires c κs = search needs
@@ -64,7 +64,7 @@ returns c =
     let s = c .before .before .before .before .before .before .before .before .before .before .before .before .before .before in
     let body = now (s .args .body) in
     let few : length (functionMask body) ≤ 32 = omega (arith, length-drop 10 body) in
-    let count : c .ones .result ≡ supported body =
+    let count : c .ones-in .result ≡ supported body =
     c .ones-in .ensures ∙ ap onesIn (rest 10 body)
     ∙ ones-supported (functionMask body) (bytes-from 10 body (λ i. c .before .before .before .before .before .before .before .before .before .before .before .before .before .shared-slice-known .given i .fits)) few (s .pre .clear) in
     answer-by
@@ -79,17 +79,17 @@ capabilities-of-spec =
     (tie.spec
     shared-slice-read-t3
     shared-slice-read-t5
-    shared-slice-read-joined
-    shared-slice-read-joined-2
+    shared-slice-read-word
+    shared-slice-read-word-2
     word-requires
-    shared-slice-read-joined-3
-    shared-slice-read-joined-4
+    shared-slice-read-word-3
+    shared-slice-read-word-4
     word-requires-2
-    shared-slice-read-joined-5
-    shared-slice-read-joined-6
+    shared-slice-read-word-5
+    shared-slice-read-word-6
     word-requires-3
-    sub-ones
-    part-ones-start
-    part-ones-end
+    sub-ones-in
+    part-ones-in-start
+    part-ones-in-end
     ones-in-requires
     returns)

@@ -70,14 +70,14 @@ part-fold-end c = search needs
 fold-requires : tie.Need-fold-requires
 fold-requires c κs = search needs
 
-shared-slice-read-measured : tie.Need-shared-slice-read-measured
-shared-slice-read-measured c = search needs
+shared-slice-read-parts-of : tie.Need-shared-slice-read-parts-of
+shared-slice-read-parts-of c = search needs
 
-shared-slice-read-measured-2 : tie.Need-shared-slice-read-measured-2
-shared-slice-read-measured-2 c = search needs
+shared-slice-read-parts-of-2 : tie.Need-shared-slice-read-parts-of-2
+shared-slice-read-parts-of-2 c = search needs
 
-shared-slice-read-measured-3 : tie.Need-shared-slice-read-measured-3
-shared-slice-read-measured-3 c = search needs
+shared-slice-read-parts-of-3 : tie.Need-shared-slice-read-parts-of-3
+shared-slice-read-parts-of-3 c = search needs
 
 parts-of-requires : tie.Need-parts-of-requires
 parts-of-requires c κs = search needs
@@ -115,8 +115,8 @@ read-spec =
     part-fold-start
     part-fold-end
     fold-requires
-    shared-slice-read-measured
-    shared-slice-read-measured-2
-    shared-slice-read-measured-3
+    shared-slice-read-parts-of
+    shared-slice-read-parts-of-2
+    shared-slice-read-parts-of-3
     parts-of-requires
     returns-7)

@@ -70,7 +70,7 @@ returns-2 c =
     let g = c .before .before .before .before .before .before .put-up-arg2 .given .0 in
     let p = c .before .before .before .before .put-up .ensures in
     let u = up-in p g (w .1) in
-    let n = up-counts p g (w .1) (ap (λ (f : Far). f .body) h) (hear-length (start (a .self .core .hearing) (a .self .body)) (now (a .bytes)) ∙ z .0) in
+    let n = up-counts p g (w .1) (ap (λ (f : Far). f .body) h) (hear-length (unheard (a .self .core .hearing) (a .self .body)) (now (a .bytes)) ∙ z .0) in
     let t = sym (runs base (a .self) (now (a .bytes))) in
     give-run (runOut base (a .self) (now (a .bytes))) (a .self) line up (roomy line up Passes r)
     (simp (c .core-of .ensures, c .before .report-of .ensures, l .count, n, d)

@@ -19,7 +19,7 @@ use Rattle.job.specs.declared.job.Asking.{Asking}
 use Rattle.job.specs.declared.job.Job.{Job}
 use Rattle.job.specs.declared.job.Job.the-variants.{Idle}
 use Rattle.sending.specs.Events.{awaitedBy, onEvent, onRestart}
-use Rattle.step.specs.declared.decide.Outcome.{Outcome}
+use Rattle.step.specs.declared.deciding.Outcome.{Outcome}
 
 -- one call's reset: no call gives both
 abbrev pub either : Reset → Reset → Reset

@@ -1,8 +1,8 @@
--- `step::decide::decide_tick` meets its contract.
+-- `step::deciding::decide_tick` meets its contract.
 -- Assumes nothing.
 use borrow.Author.Needs.{needs}
-use Rattle.step.proofs.decide.decide_tick.Statement.{statement}
-use Rattle.step.proofs.decide.decide_tick.Tie as tie
+use Rattle.step.proofs.deciding.decide_tick.Statement.{statement}
+use Rattle.step.proofs.deciding.decide_tick.Tie as tie
 
 enum-told : tie.Need-enum-told
 enum-told c = search needs

@@ -1,11 +1,11 @@
--- `step::decide::decide` meets its contract.
+-- `step::deciding::decide` meets its contract.
 -- Assumes nothing.
 use mathlib.Core.Path.{_≡_, sym, _∙_}
 use Rattle.job.specs.declared.job.Job.the-variants.{Idle}
 use Rattle.step.proofs.Idle.{idle-of}
 use borrow.Author.Needs.{needs}
-use Rattle.step.proofs.decide.decide.Statement.{statement}
-use Rattle.step.proofs.decide.decide.Tie as tie
+use Rattle.step.proofs.deciding.decide.Statement.{statement}
+use Rattle.step.proofs.deciding.decide.Tie as tie
 
 is-open-requires : tie.Need-is-open-requires
 is-open-requires c κs = search needs

@@ -1,23 +1,23 @@
 // One step of the link, on numbers alone: what reception says of an event, the run of bad sums, and the job's act on it.
 // Hearing is no part of it: that way it stays in registers while a call decides.
+use hearing::Event;
 use job::Act;
 use job::Asking;
 use job::Job;
-use report::Reset;
-use report::Sending;
-use report::Session;
 use job::is_open;
 use job::on_abort;
 use job::on_tick;
 use job::start;
-use hearing::Event;
-use report::Reception;
 use reception::Awaited;
 use reception::Reply;
 use reception::Said;
 use reception::Sums;
 use reception::said_on;
 use reception::sums_on;
+use report::Reception;
+use report::Reset;
+use report::Sending;
+use report::Session;
 use sending::awaited_by;
 use sending::on_event;
 use sending::on_restart;
@@ -27,7 +27,7 @@ ghost use Rattle.rules.specs.Rules.{base};
 ghost use Rattle.job.specs.Job as jobs;
 ghost use Rattle.sending.specs.Events as events;
 ghost use Rattle.job.specs.declared.job.Job.the-variants as job;
-ghost use Rattle.step.specs.Decide as spec;
+ghost use Rattle.step.specs.Deciding as spec;
 
 // What a call decides, before a lent byte is written; hearing and the held frame's length stand beside it.
 pub struct Outcome {

@@ -1,8 +1,8 @@
--- `step::decide::opening` meets its contract.
+-- `step::deciding::opening` meets its contract.
 -- Assumes nothing.
 use borrow.Author.Needs.{needs}
-use Rattle.step.proofs.decide.opening.Statement.{statement}
-use Rattle.step.proofs.decide.opening.Tie as tie
+use Rattle.step.proofs.deciding.opening.Statement.{statement}
+use Rattle.step.proofs.deciding.opening.Tie as tie
 
 start-requires : tie.Need-start-requires
 start-requires c κs = search needs

@@ -1,4 +1,4 @@
--- `step::decide::either` meets its contract.
+-- `step::deciding::either` meets its contract.
 -- Assumes nothing.
 use types.Run.{OneOf, miss}
 use denote.Enum.Declared.{tagOf}
@@ -8,10 +8,10 @@ use mathlib.Core.Path.{_≡_, refl}
 use Rattle.report.specs.declared.Reset.{Reset}
 use Rattle.report.specs.declared.Reset.the-variants.{Nothing, Sums, Delivery}
 use Rattle.report.proofs.Reset.{the-type}
-use Rattle.step.specs.Decide.{either}
+use Rattle.step.specs.Deciding.{either}
 use borrow.Author.Needs.{needs}
-use Rattle.step.proofs.decide.either.Statement.{statement}
-use Rattle.step.proofs.decide.either.Tie as tie
+use Rattle.step.proofs.deciding.either.Statement.{statement}
+use Rattle.step.proofs.deciding.either.Tie as tie
 
 -- a reset of the bad sums goes first
 abbrev others : List ℕ

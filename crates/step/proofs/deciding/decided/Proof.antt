@@ -1,8 +1,8 @@
--- `step::decide::decided` meets its contract.
+-- `step::deciding::decided` meets its contract.
 -- Assumes nothing.
 use borrow.Author.Needs.{needs}
-use Rattle.step.proofs.decide.decided.Statement.{statement}
-use Rattle.step.proofs.decide.decided.Tie as tie
+use Rattle.step.proofs.deciding.decided.Statement.{statement}
+use Rattle.step.proofs.deciding.decided.Tie as tie
 
 either-requires : tie.Need-either-requires
 either-requires c κs = search needs

@@ -1,8 +1,8 @@
--- `step::decide::decide_open` meets its contract.
+-- `step::deciding::decide_open` meets its contract.
 -- Assumes nothing.
 use borrow.Author.Needs.{needs}
-use Rattle.step.proofs.decide.decide_open.Statement.{statement}
-use Rattle.step.proofs.decide.decide_open.Tie as tie
+use Rattle.step.proofs.deciding.decide_open.Statement.{statement}
+use Rattle.step.proofs.deciding.decide_open.Tie as tie
 
 awaited-by-requires : tie.Need-awaited-by-requires
 awaited-by-requires c κs = search needs

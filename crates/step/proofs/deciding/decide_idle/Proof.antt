@@ -1,10 +1,10 @@
--- `step::decide::decide_idle` meets its contract.
+-- `step::deciding::decide_idle` meets its contract.
 -- Assumes nothing.
 use Rattle.reception.specs.Sums.{sumsOn}
 use Rattle.step.proofs.Idle.{either-none}
 use borrow.Author.Needs.{needs}
-use Rattle.step.proofs.decide.decide_idle.Statement.{statement}
-use Rattle.step.proofs.decide.decide_idle.Tie as tie
+use Rattle.step.proofs.deciding.decide_idle.Statement.{statement}
+use Rattle.step.proofs.deciding.decide_idle.Tie as tie
 
 said-on-requires : tie.Need-said-on-requires
 said-on-requires c κs = search needs

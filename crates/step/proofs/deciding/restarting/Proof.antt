@@ -1,8 +1,8 @@
--- `step::decide::restarting` meets its contract.
+-- `step::deciding::restarting` meets its contract.
 -- Assumes nothing.
 use borrow.Author.Needs.{needs}
-use Rattle.step.proofs.decide.restarting.Statement.{statement}
-use Rattle.step.proofs.decide.restarting.Tie as tie
+use Rattle.step.proofs.deciding.restarting.Statement.{statement}
+use Rattle.step.proofs.deciding.restarting.Tie as tie
 
 on-restart-requires : tie.Need-on-restart-requires
 on-restart-requires c κs = search needs

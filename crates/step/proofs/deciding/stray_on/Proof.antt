@@ -1,4 +1,4 @@
--- `step::decide::stray_on` meets its contract.
+-- `step::deciding::stray_on` meets its contract.
 -- Assumes nothing.
 use types.Run.{OneOf, miss}
 use denote.Enum.Declared.{tagOf}
@@ -15,8 +15,8 @@ use Rattle.job.specs.declared.job.Job.the-variants.{Idle}
 use Rattle.report.specs.declared.Sending.the-variants as sending
 use Rattle.step.proofs.Idle.{idle-ended}
 use borrow.Author.Needs.{needs}
-use Rattle.step.proofs.decide.stray_on.Statement.{statement}
-use Rattle.step.proofs.decide.stray_on.Tie as tie
+use Rattle.step.proofs.deciding.stray_on.Statement.{statement}
+use Rattle.step.proofs.deciding.stray_on.Tie as tie
 
 -- with no job open nothing but a single byte concerns the sender
 abbrev others : List ℕ
