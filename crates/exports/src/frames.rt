@@ -3,7 +3,7 @@ use crate::numbers::REFUSED;
 use frame::Built;
 use reading::Reading;
 ghost use mathlib.Core.Path.{_≡_};
-ghost use Rattle.reading.specs.Reader.{readingOf};
+ghost use Rattle.reading.specs.Reader.{read};
 ghost use Rattle.exports.specs.Numbers as spec;
 ghost use Rattle.exports.specs.Numbers.{BuiltAs};
 
@@ -41,7 +41,7 @@ pub extern "C" fn sarnaqel_build(kind: u8, command: u8, parameters: &[u8], lent:
 // Reads the bytes as one whole frame, and answers its parts as one number.
 #[no_mangle]
 pub extern "C" fn sarnaqel_read(bytes: &[u8]) -> u64
-    ensures { λ r. ⌜ r ≡ spec.readingNumber (readingOf (now (bytes .entry))) ⌝ }
+    ensures { λ r. ⌜ r ≡ spec.readingNumber (read (now (bytes .entry))) ⌝ }
 {
     let reading = reading::read(bytes);
     reading_number(reading)

@@ -4,6 +4,7 @@ use mathlib.Core.Path.{_≡_, refl, sym, ap, _∙_}
 use mathlib.Core.Bool.{Bool}
 use mathlib.Core.List.{List, [], _∷_}
 use Prim.Native.Nat.{ℕ, _+_, _≤_, min}
+use native.Mathlib.Nat.{min-le-left, min-le-right}
 use native.Mathlib.Omega.{arith}
 use lib.Dec.{ltb}
 use lib.ListN.{length, getD, take, drop, length-append}
@@ -34,6 +35,13 @@ fold-determined acc s = fixed
 
 pub least-determined : (a b : ℕ) {r q : ℕ} → r ≡ min a b → q ≡ min a b → r ≡ q
 least-determined a b = fixed
+
+-- it is neither above the first nor above the second
+pub least-first : (a b : ℕ) {r : ℕ} → r ≡ min a b → r ≤ a
+least-first a b e = omega (arith, e, min-le-left a b)
+
+pub least-second : (a b : ℕ) {r : ℕ} → r ≡ min a b → r ≤ b
+least-second a b e = omega (arith, e, min-le-right a b)
 
 -- Section 2: the whole frame is n + 5 bytes
 pub frame-length : (kind command : ℕ) (ps : List ℕ) → length (frameOf kind command ps) ≡ length ps + 5

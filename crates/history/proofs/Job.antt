@@ -80,13 +80,13 @@ ones b = pick b 1 0
 pub record Going (R : Rules) (g : ℕ → ℕ) (size : ℕ) (h : Hearing) (L n t : ℕ) (a : Asking) (job : Job) (copy : Bool) : Type 0 where
   pub good : Good R size h a job
   pub less : left R g size h job + t ≤ L
-  pub verdictCount : copiesOf job ≡ n + ones copy
+  pub count : copiesOf job ≡ n + ones copy
 
 -- an act with a verdict
 pub record Over (L n t : ℕ) (v : Verdict) (a : Asking) (job : Job) (copy : Bool) : Type 0 where
   pub soon : t ≤ L
   pub own : isOwn a v ≡ true
-  pub verdictCount : copiesIn v ≡ n + ones copy
+  pub count : copiesIn v ≡ n + ones copy
   pub few : copiesIn v ≤ 4
   pub four : isFailure v ≡ true → copiesIn v ≡ 4
   pub idle : job ≡ Idle

@@ -108,7 +108,7 @@ pub record Goes (R : Rules) (g : ℕ → ℕ) (f : List ℕ) (a : Asking) (L n t
   pub less : leftOn R g (o .link) + t ≤ L
   pub more : ℕ
   pub mix : Mix f more (o .line)
-  pub verdictCount : copiesOf (o .link .core .job) ≡ n + more
+  pub count : copiesOf (o .link .core .job) ≡ n + more
 
 -- and with a verdict
 pub record Ends (f : List ℕ) (a : Asking) (L n t : ℕ) (v : Verdict) (line : List ℕ) : Type 0 where
@@ -116,7 +116,7 @@ pub record Ends (f : List ℕ) (a : Asking) (L n t : ℕ) (v : Verdict) (line : 
   pub own : isOwn a v ≡ true
   pub more : ℕ
   pub mix : Mix f more line
-  pub verdictCount : copiesIn v ≡ n + more
+  pub count : copiesIn v ≡ n + more
   pub few : copiesIn v ≤ 4
   pub four : isFailure v ≡ true → copiesIn v ≡ 4
 

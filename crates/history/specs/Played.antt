@@ -24,7 +24,7 @@ use Rattle.history.specs.History.{next}
 
 -- what a call answered; a run of bytes has its own answer
 pub data Told : Type 0 where
-  onAnswer : Answer → Told
+  answered : Answer → Told
   ran : RunAnswer → Told
 
 -- a call: the bytes lent to it, what it answered, and what it left of them

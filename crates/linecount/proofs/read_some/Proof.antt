@@ -1,11 +1,9 @@
 -- `linecount::read_some` meets its contract: what came lies within what was asked for.
 -- Assumes nothing.
 use mathlib.Core.Path.{sym}
-use native.Mathlib.Nat.{min-le-left, min-le-right}
-use native.Mathlib.Omega.{arith}
-use lib.ListN.{length}
 use borrow.Author.Needs.{needs}
 use lib.Seq.{length-take-le}
+use Rattle.frame.proofs.Theorems.{least-first, least-second}
 use Rattle.linecount.proofs.read_some.Statement.{statement}
 use Rattle.linecount.proofs.read_some.Tie as tie
 
@@ -16,7 +14,7 @@ slice-relend-prefix-read : tie.Need-slice-relend-prefix-read
 slice-relend-prefix-read c = search needs
 
 slice-aggregate-read : tie.Need-slice-aggregate-read
-slice-aggregate-read c = sym (length-take-le _ _ (omega (arith, c .before .least .ensures, min-le-right (c .before .before .args .most) (length (now (c .before .before .args .buf))))))
+slice-aggregate-read c = sym (length-take-le _ _ (least-second _ _ (c .before .least .ensures)))
 
 read-requires : tie.Need-read-requires
 read-requires c κs = search needs

@@ -7,8 +7,8 @@ use Rattle.exports.proofs.frames.built_number.Tie as tie
 enum-known-built : tie.Need-enum-known-built
 enum-known-built c = search needs
 
-number-requires : tie.Need-number-requires
-number-requires c κs = search needs
+number-of-requires : tie.Need-number-of-requires
+number-of-requires c κs = search needs
 
 cast-result : tie.Need-cast-result
 cast-result c = search needs
@@ -23,7 +23,7 @@ cast-result-2 : tie.Need-cast-result-2
 cast-result-2 c = search needs
 
 returns : tie.Need-returns
-returns c = simp (c .before .before .built .given .1, c .number .ensures)
+returns c = simp (c .before .before .built .given .1, c .number-of .ensures)
 
 returns-2 : tie.Need-returns-2
 returns-2 c = search needs
@@ -33,7 +33,7 @@ built-number-spec =
     tie.close
     (tie.spec
     enum-known-built
-    number-requires
+    number-of-requires
     cast-result
     add-result
     enum-known-built-2

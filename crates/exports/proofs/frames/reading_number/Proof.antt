@@ -7,8 +7,8 @@ use Rattle.exports.proofs.frames.reading_number.Tie as tie
 enum-known-reading : tie.Need-enum-known-reading
 enum-known-reading c = search needs
 
-number-requires : tie.Need-number-requires
-number-requires c κs = search needs
+number-of-requires : tie.Need-number-of-requires
+number-of-requires c κs = search needs
 
 cast-result : tie.Need-cast-result
 cast-result c = search needs
@@ -41,7 +41,7 @@ add-result-3 : tie.Need-add-result-3
 add-result-3 c = search needs
 
 returns : tie.Need-returns
-returns c = simp (c .before .before .reading .given .1, c .number .ensures)
+returns c = simp (c .before .before .reading .given .1, c .number-of .ensures)
 
 returns-2 : tie.Need-returns-2
 returns-2 c = simp (c .before .reading2 .given .1)
@@ -51,7 +51,7 @@ reading-number-spec =
     tie.close
     (tie.spec
     enum-known-reading
-    number-requires
+    number-of-requires
     cast-result
     add-result
     enum-known-reading-2

@@ -7,8 +7,8 @@ use Rattle.exports.proofs.numbers.answer_number.Tie as tie
 enum-known-answer : tie.Need-enum-known-answer
 enum-known-answer c = search needs
 
-number-requires : tie.Need-number-requires
-number-requires c κs = search needs
+number-of-requires : tie.Need-number-of-requires
+number-of-requires c κs = search needs
 
 cast-result : tie.Need-cast-result
 cast-result c = search needs
@@ -23,7 +23,7 @@ report-number-requires : tie.Need-report-number-requires
 report-number-requires c κs = search needs
 
 returns : tie.Need-returns
-returns c = simp (c .before .before .answer .given .1, c .number .ensures)
+returns c = simp (c .before .before .answer .given .1, c .number-of .ensures)
 
 returns-2 : tie.Need-returns-2
 returns-2 c = simp (c .before .before .answer2 .given .1, c .report-number .ensures)
@@ -33,7 +33,7 @@ answer-number-spec =
     tie.close
     (tie.spec
     enum-known-answer
-    number-requires
+    number-of-requires
     cast-result
     add-result
     enum-known-answer-2

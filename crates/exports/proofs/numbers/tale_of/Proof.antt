@@ -7,8 +7,8 @@ use Rattle.exports.proofs.numbers.tale_of.Tie as tie
 enum-known-answer : tie.Need-enum-known-answer
 enum-known-answer c = search needs
 
-number-requires : tie.Need-number-requires
-number-requires c κs = search needs
+number-of-requires : tie.Need-number-of-requires
+number-of-requires c κs = search needs
 
 cast-t7 : tie.Need-cast-t7
 cast-t7 c = search needs
@@ -23,7 +23,7 @@ report-number-requires : tie.Need-report-number-requires
 report-number-requires c κs = search needs
 
 returns : tie.Need-returns
-returns c = (simp (c .before .before .answer .given .1, c .number .ensures), simp (c .before .before .answer .given .1))
+returns c = (simp (c .before .before .answer .given .1, c .number-of .ensures), simp (c .before .before .answer .given .1))
 
 returns-2 : tie.Need-returns-2
 returns-2 c = (simp (c .before .before .answer2 .given .1, c .report-number .ensures), simp (c .before .before .answer2 .given .1))
@@ -33,7 +33,7 @@ tale-of-spec =
     tie.close
     (tie.spec
     enum-known-answer
-    number-requires
+    number-of-requires
     cast-t7
     add-t8
     enum-known-answer-2

@@ -22,7 +22,7 @@ same-length-2 c = search needs
 returns : tie.Need-returns
 returns c =
     let a = c .before .before .before .before .before .before .before .before .before .before .before .before .before .before .before .before .before .before .args in
-    ready-ticks _ (c .before .before .before .before .before .before .before .before .before .before .before .prepared .result) _ _ (now (a .line)) (now (a .up)) _ _ (a .n) _ (omega arith) (omega arith) (c .before .before .before .before .before .before .before .before .before .before .before .heard-fed .ensures) (c .before .before .before .before .ticks-fed .ensures)
+    ready-ticks _ (c .before .before .before .before .before .before .before .before .before .before .before .heard-fed .result) _ _ (now (a .line)) (now (a .up)) _ _ (a .n) _ (omega arith) (omega arith) (c .before .before .before .before .before .before .before .before .before .before .before .heard-fed .ensures) (c .before .before .before .before .ticks-fed .ensures)
 
 pub sarnaqel-ticks-spec : {M : Type 1} → statement M
 sarnaqel-ticks-spec =
