@@ -7,7 +7,7 @@ use lib.ListN.{length}
 use Rattle.frame.specs.Frame.{frameOf}
 use Rattle.frame.specs.Builder as builder
 use Rattle.frame.specs.declared.builder.Built.{Built}
-use Rattle.reading.specs.Reader.{read}
+use Rattle.reading.specs.Reader as reader
 use Rattle.reading.specs.declared.reader.Reading.{Reading}
 use Rattle.units.specs.Units.{ticksOf}
 use Rattle.units.specs.declared.Millis.{Millis}
@@ -45,9 +45,9 @@ answerTo (build kind command ps lent) =
 answerTo (setTimeouts rxack rxbyte lent) =
     built (setOf (ticksOf rxack) (ticksOf rxbyte) (length lent))
     (builder.leftBy (setOf (ticksOf rxack) (ticksOf rxbyte) (length lent)) (frameOf 0 6 (ticksFor (ticksOf rxack) (ticksOf rxbyte))) lent)
-answerTo (read bytes) = reading (read bytes)
+answerTo (read bytes) = reading (reader.read bytes)
 answerTo (list body lent) =
-    listed (nodes.nodeListOf body (length lent)) (nodes.leftBy (nodes.nodeListOf body (length lent)) (nodes.nodesOf body) lent)
+    listed (nodes.nodeListOf body (length lent)) (nodes.listLeft (nodes.nodeListOf body (length lent)) (nodes.nodesOf body) lent)
 answerTo (play calls) = shows (seen base calls)
 
 -- a row of the table
