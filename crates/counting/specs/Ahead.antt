@@ -10,13 +10,14 @@ use Rattle.hearing.specs.declared.hearing.Hearing.the-variants.{Hunting}
 use Rattle.tally.specs.declared.Counts.{Counts}
 use Rattle.tally.specs.declared.Tally.{Tally}
 use Rattle.counting.specs.Counting.{count}
+use Rattle.frame.specs.Frame.{ACK, NAK, CAN}
 
 abbrev pub hunting : Counts → Tally
 hunting k = record { hearing = Hunting; counts = k }
 
 -- The column of a byte while hunting that begins no frame.
 abbrev pub apart : ℕ → ℕ
-apart b = pick (eqb b 6) 0 (pick (eqb b 21) 1 (pick (eqb b 24) 2 7))
+apart b = pick (eqb b ACK) 0 (pick (eqb b NAK) 1 (pick (eqb b CAN) 2 7))
 
 -- The column of a whole frame, by its Type, what its checksum has to be, and its checksum.
 abbrev pub whole : ℕ → ℕ → ℕ → ℕ

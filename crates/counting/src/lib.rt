@@ -1,4 +1,9 @@
 // Counting (document 01, section 9): what stands in raw bytes, many bytes at once where no frame is cut short.
+use frame::ACK;
+use frame::CAN;
+use frame::NAK;
+use frame::SEED;
+use frame::START;
 use hearing::Hearing;
 use tally::Counts;
 use tally::Tally;
@@ -25,15 +30,15 @@ struct Turn {
 fn count_apart(mut counts: Counts, b: u8) -> Counts
     ensures { λ r. ⌜ r ≡ added (apart b) counts ⌝ }
 {
-    if b == 6 {
+    if b == ACK {
         counts.ack = tally::one_more(counts.ack);
         return counts;
     }
-    if b == 21 {
+    if b == NAK {
         counts.nak = tally::one_more(counts.nak);
         return counts;
     }
-    if b == 24 {
+    if b == CAN {
         counts.can = tally::one_more(counts.can);
         return counts;
     }
@@ -93,7 +98,7 @@ fn stride(counts: Counts, bytes: &[u8], i: usize) -> Stretch
         };
     }
     let last = first + size;
-    let sum = frame::fold(255, &bytes[first..last]);
+    let sum = frame::fold(SEED, &bytes[first..last]);
     let next = count_whole(counts, bytes[i + 2], sum, bytes[last]);
     Stretch {
         counts: next,
@@ -115,7 +120,7 @@ fn step(counts: Counts, bytes: &[u8], i: usize) -> Stretch
 {
     let b = bytes[i];
     if b < 2 {
-        if b == 1 {
+        if b == START {
             return stride(counts, bytes, i);
         }
         let next = count_apart(counts, b);

@@ -7,7 +7,7 @@ use lib.Dec.{ltb}
 use lib.ListN.{length}
 use Rattle.refusals.specs.Pick.{pick}
 use Rattle.frame.specs.Bytes.{over}
-use Rattle.frame.specs.Frame.{frameOf}
+use Rattle.frame.specs.Frame.{frameOf, RES, MAX_PARAMETERS}
 use Rattle.refusals.specs.Refusals.{numberOf}
 use Rattle.refusals.specs.declared.Refusal.the-variants as refusal
 use Rattle.frame.specs.declared.builder.Built.{Built}
@@ -16,8 +16,8 @@ use Rattle.frame.specs.declared.builder.Built.the-variants.{Refused, Fra
 -- for n parameters and so many lent bytes
 abbrev pub builtOf : ℕ → ℕ → ℕ → Built
 builtOf kind n room =
-    pick (ltb 1 kind) (Refused refusal.Kind)
-    (pick (ltb 252 n) (Refused refusal.Long)
+    pick (ltb RES kind) (Refused refusal.Kind)
+    (pick (ltb MAX_PARAMETERS n) (Refused refusal.Long)
     (pick (ltb room (n + 5)) (Refused refusal.Room)
     (Frame (n + 5))))
 

@@ -1,4 +1,8 @@
 // Building a frame (sections 2 and 3).
+use crate::MAX_PARAMETERS;
+use crate::RES;
+use crate::SEED;
+use crate::START;
 use crate::bytes::fold;
 use crate::bytes::lay;
 use refusals::Refusal;
@@ -7,7 +11,7 @@ ghost use Prim.Native.Nat.{_+_, _≤_};
 ghost use lib.ListN.{length};
 ghost use Rattle.frame.specs.Builder.{Build};
 ghost use Rattle.frame.specs.Bytes.{over};
-ghost use Rattle.frame.specs.Frame.{frameOf};
+ghost use Rattle.frame.specs.Frame as spec;
 
 pub enum Built {
     Refused(Refusal),
@@ -17,16 +21,16 @@ pub enum Built {
 
 // Writes the frame of these parts over the first of the lent bytes, then walks it again for the checksum.
 fn write(kind: u8, command: u8, parameters: &[u8], lent: &mut [u8])
-    requires { ⌜ (length (now parameters) ≤ 252) × (length (now parameters) + 5 ≤ length (now lent)) ⌝ }
-    ensures { λ _. ⌜ now (lent .exit) ≡ over (frameOf kind command (now (parameters .entry))) (now (lent .entry)) ⌝ }
+    requires { ⌜ (length (now parameters) ≤ spec.MAX_PARAMETERS) × (length (now parameters) + 5 ≤ length (now lent)) ⌝ }
+    ensures { λ _. ⌜ now (lent .exit) ≡ over (spec.frameOf kind command (now (parameters .entry))) (now (lent .entry)) ⌝ }
 {
     let n = parameters.len();
-    lent[0] = 1;
+    lent[0] = START;
     lent[1] = (n + 3) as u8;
     lent[2] = kind;
     lent[3] = command;
     lay(parameters, n, lent, 4);
-    let sum = fold(255, &lent[1..n + 4]);
+    let sum = fold(SEED, &lent[1..n + 4]);
     lent[n + 4] = sum;
 }
 
@@ -35,10 +39,10 @@ pub fn build(kind: u8, command: u8, parameters: &[u8], lent: &mut [u8]) -> Built
     ensures { λ r. ⌜ Build kind command (now (parameters .entry)) (now (lent .entry)) r (now (lent .exit)) ⌝ }
 {
     let n = parameters.len();
-    if 1 < kind {
+    if RES < kind {
         return Built::Refused(Refusal::Kind);
     }
-    if 252 < n {
+    if MAX_PARAMETERS < n {
         return Built::Refused(Refusal::Long);
     }
     if lent.len() < n + 5 {

@@ -16,6 +16,7 @@ use Rattle.hearing.specs.declared.hearing.End.the-variants.{BadLength, B
 use Rattle.hearing.specs.declared.hearing.Event.{Event}
 use Rattle.hearing.specs.declared.hearing.Event.the-variants.{Inside, Kept, Skipped, Alone, Ended, TickHunting, TickInside, Aborted}
 use Rattle.hearing.specs.declared.hearing.Heard.{Heard}
+use Rattle.frame.specs.Frame.{START, REQ, RES, SEED, ACK, NAK, CAN, MIN_LENGTH}
 
 abbrev pub heard : Hearing → Event → Heard
 heard h e = record { hearing = h; event = e }
@@ -28,19 +29,19 @@ isHunting (Body p) = false
 -- While hunting: 01 begins a frame and sets its clock to 0; 06, 15, 18 go to the sender; other bytes are skipped.
 abbrev pub hunted : ℕ → Heard
 hunted b =
-    pick (eqb b 1) (heard (Head 0) Inside)
-    (pick (eqb b 6) (heard Hunting (Alone Ack))
-    (pick (eqb b 21) (heard Hunting (Alone Nak))
-    (pick (eqb b 24) (heard Hunting (Alone Can))
+    pick (eqb b START) (heard (Head 0) Inside)
+    (pick (eqb b ACK) (heard Hunting (Alone Ack))
+    (pick (eqb b NAK) (heard Hunting (Alone Nak))
+    (pick (eqb b CAN) (heard Hunting (Alone Can))
     (heard Hunting Skipped))))
 
 -- After Length come Length − 1 body bytes. The checksum is FF xor every byte from Length on.
 abbrev pub begun : ℕ → ℕ → Partial
-begun clock len = record { clock = clock; size = len - 1; at = 0; sum = bitXor 255 len; kind = 0; command = 0 }
+begun clock len = record { clock = clock; size = len - 1; at = 0; sum = bitXor SEED len; kind = 0; command = 0 }
 
 -- Length below 3: bad length, hunt again.
 abbrev pub measured : ℕ → ℕ → Heard
-measured clock b = pick (ltb b 3) (heard Hunting (Ended BadLength)) (heard (Body (begun clock b)) Inside)
+measured clock b = pick (ltb b MIN_LENGTH) (heard Hunting (Ended BadLength)) (heard (Body (begun clock b)) Inside)
 
 -- One more body byte: the first is the Type, the second the Command.
 abbrev pub more : Partial → ℕ → Partial
@@ -56,7 +57,7 @@ more p b =
 
 -- Right checksum, by Type: 00 a request, 01 a response, else reserved.
 abbrev pub ended : Partial → End
-ended p = pick (eqb (p .kind) 0) (Request (p .size)) (pick (eqb (p .kind) 1) (Response (p .size) (p .command)) Reserved)
+ended p = pick (eqb (p .kind) REQ) (Request (p .size)) (pick (eqb (p .kind) RES) (Response (p .size) (p .command)) Reserved)
 
 -- Inside a body, then its Checksum. No byte has a special meaning.
 abbrev pub followed : Partial → ℕ → Heard

@@ -1,9 +1,19 @@
 // A byte or a tick is heard (section 4).
+use frame::ACK;
+use frame::CAN;
+use frame::MAX_BODY;
+use frame::MIN_LENGTH;
+use frame::NAK;
+use frame::REQ;
+use frame::RES;
+use frame::SEED;
+use frame::START;
 use units::Millis;
 ghost use mathlib.Core.Path.{_≡_};
 ghost use Prim.Native.Nat.{_+_, _<_};
 ghost use lib.Dec.{eqb};
 ghost use lib.ListN.{length, set};
+ghost use Rattle.frame.specs.Frame as frames;
 ghost use Rattle.refusals.specs.Pick.{pick};
 ghost use Rattle.hearing.specs.Hearing as spec;
 ghost use Rattle.hearing.specs.declared.hearing.Hearing.the-variants.{Head, Body};
@@ -72,25 +82,25 @@ pub struct Heard {
 pub fn hunted(b: u8) -> Heard
     ensures { λ r. ⌜ r ≡ spec.hunted b ⌝ }
 {
-    if b == 1 {
+    if b == START {
         return Heard {
             hearing: Hearing::Head { clock: 0 },
             event: Event::Inside,
         };
     }
-    if b == 6 {
+    if b == ACK {
         return Heard {
             hearing: Hearing::Hunting,
             event: Event::Alone(Single::Ack),
         };
     }
-    if b == 21 {
+    if b == NAK {
         return Heard {
             hearing: Hearing::Hunting,
             event: Event::Alone(Single::Nak),
         };
     }
-    if b == 24 {
+    if b == CAN {
         return Heard {
             hearing: Hearing::Hunting,
             event: Event::Alone(Single::Can),
@@ -106,7 +116,7 @@ pub fn hunted(b: u8) -> Heard
 pub fn measured(clock: u16, b: u8) -> Heard
     ensures { λ r. ⌜ r ≡ spec.measured clock b ⌝ }
 {
-    if b < 3 {
+    if b < MIN_LENGTH {
         return Heard {
             hearing: Hearing::Hunting,
             event: Event::Ended(End::BadLength),
@@ -116,7 +126,7 @@ pub fn measured(clock: u16, b: u8) -> Heard
         clock: clock,
         size: b - 1,
         at: 0,
-        sum: 255 ^ b,
+        sum: SEED ^ b,
         kind: 0,
         command: 0,
     };
@@ -158,10 +168,10 @@ fn ended(p: Partial) -> End
     ensures { λ r. ⌜ r ≡ spec.ended p ⌝ }
 {
     let kind = p.kind;
-    if kind == 0 {
+    if kind == REQ {
         return End::Request { size: p.size };
     }
-    if kind == 1 {
+    if kind == RES {
         return End::Response {
             size: p.size,
             command: p.command,
@@ -269,8 +279,8 @@ pub fn is_hunting(hearing: Hearing) -> bool
 
 // A body byte is kept at its place. The guard is for links that no call makes. (The length is what the type says; the logic
 // does not know it of an array behind a reference.)
-pub fn keep(body: &mut [u8; 254], event: Event, b: u8)
-    ensures { λ _. ⌜ (length (now (body .entry)) ≡ 254 → now (body .exit) ≡ spec.keep event b (now (body .entry))) ⌝ }
+pub fn keep(body: &mut [u8; MAX_BODY], event: Event, b: u8)
+    ensures { λ _. ⌜ (length (now (body .entry)) ≡ frames.MAX_BODY → now (body .exit) ≡ spec.keep event b (now (body .entry))) ⌝ }
 {
     match event {
         Event::Inside => {}
@@ -284,11 +294,11 @@ pub fn keep(body: &mut [u8; 254], event: Event, b: u8)
     }
 }
 
-fn store(body: &mut [u8; 254], at: u8, b: u8)
-    ensures { λ _. ⌜ (length (now (body .entry)) ≡ 254 → now (body .exit) ≡ set (now (body .entry)) at b) ⌝ }
+fn store(body: &mut [u8; MAX_BODY], at: u8, b: u8)
+    ensures { λ _. ⌜ (length (now (body .entry)) ≡ frames.MAX_BODY → now (body .exit) ≡ set (now (body .entry)) at b) ⌝ }
 {
     let i = at as usize;
-    if i < 254 {
+    if i < MAX_BODY {
         body[i] = b;
     }
 }

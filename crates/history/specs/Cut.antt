@@ -5,6 +5,7 @@ use mathlib.Core.List.{List, [], _∷_, _++_}
 use lib.Dec.{eqb}
 use lib.ListN.{length, take, drop, getD}
 use Rattle.refusals.specs.Pick.{pick}
+use Rattle.frame.specs.Frame.{START, ACK, NAK}
 
 pub data Piece : Type 0 where
   single : ℕ → Piece
@@ -15,7 +16,7 @@ abbrev pub cutInto : ℕ → List ℕ → List Piece
 cutInto zero l = []
 cutInto (suc n) [] = []
 cutInto (suc n) (b ∷ l) =
-    pick (eqb b 1) (whole (take (getD l 0 0 + 2) (b ∷ l)) ∷ cutInto n (drop (getD l 0 0 + 2) (b ∷ l)))
+    pick (eqb b START) (whole (take (getD l 0 0 + 2) (b ∷ l)) ∷ cutInto n (drop (getD l 0 0 + 2) (b ∷ l)))
     (single b ∷ cutInto n l)
 
 abbrev pub cut : List ℕ → List Piece
@@ -41,8 +42,8 @@ singles l = singlesOf (cut l)
 
 -- 06 or 15: what the link answers a frame with, and a restart
 pub data IsAnswer : ℕ → Type 0 where
-  ack : IsAnswer 0x06
-  nak : IsAnswer 0x15
+  ack : IsAnswer ACK
+  nak : IsAnswer NAK
 
 -- the bytes of the pieces, one behind the other
 abbrev pub joined : List Piece → List ℕ

@@ -5,7 +5,7 @@ use mathlib.Core.Bool.{true}
 use mathlib.Core.Path.{_≡_}
 use mathlib.Core.List.{List}
 use lib.ListN.{length, replicate}
-use Rattle.frame.specs.Frame.{frameOf}
+use Rattle.frame.specs.Frame.{frameOf, REQ}
 use Rattle.rules.specs.Rules.{Rules}
 use Rattle.link.specs.Out.{Out}
 use Rattle.job.specs.declared.job.Asking.{Asking}
@@ -93,7 +93,7 @@ abbrev pub EverySession : Rules → (ℕ → ℕ) → Type 0
 EverySession R bound =
     (h k : List Call) (line up command : ℕ) (ps : List ℕ) (o : Out)
     → perform R (after R h) (record { what = session command ps; line = line; up = up }) ≡ took o
-    → Demand3 R (Asks command) (frameOf 0 command ps) (bound (length (frameOf 0 command ps))) o k
+    → Demand3 R (Asks command) (frameOf REQ command ps) (bound (length (frameOf REQ command ps))) o k
 
 -- the verdict comes by the 15,701st accepted tick after acceptance
 abbrev pub sendBound : ℕ

@@ -3,7 +3,7 @@
 use Prim.Native.Nat.{ℕ}
 use mathlib.Core.List.{List}
 use lib.ListN.{length}
-use Rattle.frame.specs.Frame.{frameOf}
+use Rattle.frame.specs.Frame.{frameOf, REQ}
 use Rattle.refusals.specs.declared.Refusal.{Refusal}
 use Rattle.rules.specs.Rules.{Rules}
 use Rattle.link.specs.Out.{Out, byteOut, tickOut, openOut, restartOut, runOut}
@@ -42,7 +42,7 @@ outOf R l (byte b) = byteOut R l b
 outOf R l (bytes bs) = (runOut R l bs) .out
 outOf R l tick = tickOut R l
 outOf R l (send kind command ps) = openOut l Plain (frameOf kind command ps)
-outOf R l (session command ps) = openOut l (Asks command) (frameOf 0 command ps)
+outOf R l (session command ps) = openOut l (Asks command) (frameOf REQ command ps)
 outOf R l restart = restartOut l
 
 pub data Done : Type 0 where

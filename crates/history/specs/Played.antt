@@ -5,7 +5,7 @@ use mathlib.Core.Path.{_≡_}
 use mathlib.Core.List.{List, [], _∷_}
 use lib.ListN.{length}
 use Rattle.frame.specs.Bytes.{over}
-use Rattle.frame.specs.Frame.{frameOf}
+use Rattle.frame.specs.Frame.{frameOf, REQ}
 use Rattle.rules.specs.Rules.{Rules}
 use Rattle.job.specs.declared.job.Asking.the-variants.{Plain, Asks}
 use Rattle.step.specs.Checks.{sendOwn, sessionOwn}
@@ -51,7 +51,7 @@ pub data Promised (R : Rules) (l : Link) : Played → Link → Type 0 where
       → CallPromise (sendOwn (l .core .job) kind (length ps)) (openOut l Plain (frameOf kind command ps)) l line up r line′ up′
       → Promised R l (played (send kind command ps) line up (answered (r .answer)) line′ up′) (r .link)
   sessionCall : (command : ℕ) (ps line up : List ℕ) (r : Answered) (line′ up′ : List ℕ)
-      → CallPromise (sessionOwn (l .core .job) (length ps)) (openOut l (Asks command) (frameOf 0 command ps)) l line up r line′ up′
+      → CallPromise (sessionOwn (l .core .job) (length ps)) (openOut l (Asks command) (frameOf REQ command ps)) l line up r line′ up′
       → Promised R l (played (session command ps) line up (answered (r .answer)) line′ up′) (r .link)
   restartCall : (line up : List ℕ) (r : Answered) (line′ up′ : List ℕ) → CallPromise Passes (restartOut l) l line up r line′ up′
       → Promised R l (played restart line up (answered (r .answer)) line′ up′) (r .link)

@@ -12,6 +12,7 @@ use Rattle.job.specs.declared.job.Job.{Job}
 use Rattle.job.specs.declared.job.Job.the-variants.{Idle, Due, Waiting, BackingOff, Awaiting}
 use Rattle.link.specs.declared.link.Link.{Link}
 use Rattle.history.specs.Perform.{What, byte, bytes, tick, send, session, restart, Call}
+use Rattle.frame.specs.Frame.{MAX_BODY, MAX_FRAME}
 
 -- ---- histories in which every received byte is of a kind B
 abbrev pub All : (ℕ → Type 0) → List ℕ → Type 0
@@ -38,7 +39,7 @@ IsByte b = b < 256
 pub record PartialIn (p : Partial) : Type 0 where
   pub clock : p .clock ≤ 1500
   pub least : 2 ≤ p .size
-  pub most : p .size ≤ 254
+  pub most : p .size ≤ MAX_BODY
   pub at : p .at ≤ p .size
   pub sum : p .sum < 256
   pub kind : p .kind < 256
@@ -67,6 +68,6 @@ pub record InRange (R : Rules) (most : ℕ) (l : Link) : Type 0 where
   pub hearing : HearingIn (l .core .hearing)
   pub job : JobIn R most (l .core .size) (l .core .hearing) (l .core .job)
   pub bad : l .core .bad ≤ 2
-  pub size : l .core .size ≤ 257
-  pub body : length (l .body) ≡ 254
-  pub frame : length (l .frame) ≡ 257
+  pub size : l .core .size ≤ MAX_FRAME
+  pub body : length (l .body) ≡ MAX_BODY
+  pub frame : length (l .frame) ≡ MAX_FRAME

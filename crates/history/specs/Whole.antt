@@ -22,12 +22,13 @@ use Rattle.link.specs.declared.link.Link.{Link}
 use Rattle.history.specs.Perform.{Call, perform}
 use Rattle.history.specs.History.{next, run, ticksIn, restartsIn}
 use Rattle.history.specs.Received.{takenBy, ifTaken, received}
+use Rattle.frame.specs.Frame.{START, REQ, ACK, NAK, MIN_LENGTH}
 
 -- ---- the bytes
 -- 01 and a Length below 3; or 01, Length, and then "Length − 1 body bytes, then Checksum".
 pub data Whole (xs : List ℕ) : Type 0 where
-  short : (len : ℕ) → xs ≡ 1 ∷ len ∷ [] → len < 3 → Whole xs
-  full : (len : ℕ) (rest : List ℕ) → xs ≡ 1 ∷ len ∷ rest → 3 ≤ len → len ≤ 255 → length rest ≡ len → Whole xs
+  short : (len : ℕ) → xs ≡ START ∷ len ∷ [] → len < MIN_LENGTH → Whole xs
+  full : (len : ℕ) (rest : List ℕ) → xs ≡ START ∷ len ∷ rest → MIN_LENGTH ≤ len → len ≤ 255 → length rest ≡ len → Whole xs
 
 -- ---- the calls that take them
 -- by what a call took: nothing, so that the first byte is taken later; or the first byte, so that what is behind the call counts
@@ -72,23 +73,23 @@ pub record Ending (j : Job) (held : List ℕ) (r : Reception) (answer handed : L
 
 -- "A frame handed up is reported as the frame end, or as stray response in its place": a RES that is not awaited.
 abbrev pub frameReport : ℕ → ℕ → Job → Reception
-frameReport kind command j = pick (eqb kind 0) reception.Frame (pick (awaits command j) reception.Frame reception.StrayResponse)
+frameReport kind command j = pick (eqb kind REQ) reception.Frame (pick (awaits command j) reception.Frame reception.StrayResponse)
 
 -- The reader's answer to the bytes xs decides. LENGTH: "report bad length, hunt again. No byte is put out." SUM: "put out 15, report bad sum."
 -- KIND: "put out 06, hand up nothing, report reserved." Parts: "put out 06 and hand up the body". It has no other answer to bytes that come whole.
 abbrev pub EndsBy : Job → List ℕ → List ℕ → Reading → Out → Type 0
 EndsBy j held xs (Refused refusal.Room) o = ⊥
 EndsBy j held xs (Refused refusal.Busy) o = ⊥
-EndsBy j held xs (Refused refusal.Kind) o = Ending j held reception.Reserved (6 ∷ []) [] o
+EndsBy j held xs (Refused refusal.Kind) o = Ending j held reception.Reserved (ACK ∷ []) [] o
 EndsBy j held xs (Refused refusal.Long) o = ⊥
 EndsBy j held xs (Refused refusal.Short) o = ⊥
 EndsBy j held xs (Refused refusal.Start) o = ⊥
 EndsBy j held xs (Refused refusal.Length) o = Ending j held reception.BadLength [] [] o
 EndsBy j held xs (Refused refusal.Tail) o = ⊥
-EndsBy j held xs (Refused refusal.Sum) o = Ending j held reception.BadSum (21 ∷ []) [] o
+EndsBy j held xs (Refused refusal.Sum) o = Ending j held reception.BadSum (NAK ∷ []) [] o
 EndsBy j held xs (Refused refusal.Form) o = ⊥
 EndsBy j held xs (Refused refusal.Range) o = ⊥
-EndsBy j held xs (Parts kind command n) o = Ending j held (frameReport kind command j) (6 ∷ []) (kind ∷ command ∷ parametersOf xs n) o
+EndsBy j held xs (Parts kind command n) o = Ending j held (frameReport kind command j) (ACK ∷ []) (kind ∷ command ∷ parametersOf xs n) o
 
 -- of a call on the link l that takes the last of the bytes xs and gives o
 abbrev pub AsRead : Link → List ℕ → Reading → Out → Type 0

@@ -7,12 +7,13 @@ use Rattle.step.specs.Core.{freshCore}
 use Rattle.units.specs.declared.Millis.{Millis}
 use Rattle.link.specs.declared.link.Link.{Link}
 use Rattle.link.specs.declared.link.Timings.{Timings}
+use Rattle.frame.specs.Frame.{MAX_BODY, MAX_FRAME}
 
 unfoldable pub noBody : List ℕ
-noBody = replicate 254 0
+noBody = replicate MAX_BODY 0
 
 unfoldable pub noFrame : List ℕ
-noFrame = replicate 257 0
+noFrame = replicate MAX_FRAME 0
 
 abbrev pub freshLink : Link
 freshLink = record { core = freshCore; body = noBody; frame = noFrame }

@@ -1,4 +1,6 @@
 // The link's state, its timings, and opening.
+use frame::MAX_BODY;
+use frame::MAX_FRAME;
 use hearing::Hearing;
 use job::Job;
 use step::Core;
@@ -10,8 +12,8 @@ ghost use Rattle.link.specs.Link.{freshLink, timings};
 pub struct Link {
     pub(crate) core: Core,
     // The body of the half-received frame, and the frame being sent.
-    pub(crate) body: [u8; 254],
-    pub(crate) frame: [u8; 257],
+    pub(crate) body: [u8; MAX_BODY],
+    pub(crate) frame: [u8; MAX_FRAME],
 }
 
 // The protocol's timings, together.
@@ -46,8 +48,8 @@ impl Link {
         let core = Core::fresh();
         Link {
             core: core,
-            body: [0; 254],
-            frame: [0; 257],
+            body: [0; MAX_BODY],
+            frame: [0; MAX_FRAME],
         }
     }
 

@@ -1,4 +1,5 @@
 // What every body that is read has at its front.
+use frame::RES;
 ghost use mathlib.Core.Path.{_≡_};
 ghost use Rattle.masks.specs.Response.{isResponse};
 
@@ -9,7 +10,7 @@ pub fn is_response(body: &[u8], command: u8) -> bool
     if body.len() < 2 {
         return false;
     }
-    if body[0] != 1 {
+    if body[0] != RES {
         return false;
     }
     body[1] == command

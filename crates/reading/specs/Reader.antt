@@ -5,7 +5,7 @@ use mathlib.Core.List.{List, [], _∷_}
 use lib.Dec.{ltb, eqb}
 use lib.ListN.{length, getD, take, drop}
 use Rattle.refusals.specs.Pick.{pick}
-use Rattle.frame.specs.Frame.{checksum}
+use Rattle.frame.specs.Frame.{checksum, START, RES, MIN_LENGTH}
 use Rattle.refusals.specs.Refusals.{numberOf}
 use Rattle.refusals.specs.declared.Refusal.the-variants as refusal
 use Rattle.reading.specs.declared.reader.Reading.{Reading}
@@ -20,7 +20,7 @@ readingTold (Parts kind command count) = 0 ∷ kind ∷ command ∷ count ∷ []
 abbrev pub partsOf : ℕ → ℕ → ℕ → ℕ → ℕ → Reading
 partsOf kind command len sum last =
     pick (eqb sum last)
-    (pick (ltb 1 kind) (Refused refusal.Kind)
+    (pick (ltb RES kind) (Refused refusal.Kind)
     (Parts kind command (len - 3)))
     (Refused refusal.Sum)
 
@@ -31,7 +31,7 @@ measuredOf bytes len = partsOf (getD bytes 2 0) (getD bytes 3 0) len (checksum (
 -- of bytes that begin with 01 and a Length
 abbrev pub sizedOf : List ℕ → ℕ → Reading
 sizedOf bytes len =
-    pick (ltb len 3) (Refused refusal.Length)
+    pick (ltb len MIN_LENGTH) (Refused refusal.Length)
     (pick (ltb (length bytes) (len + 2)) (Refused refusal.Short)
     (pick (ltb (len + 2) (length bytes)) (Refused refusal.Tail)
     (measuredOf bytes len)))
@@ -39,7 +39,7 @@ sizedOf bytes len =
 abbrev pub read : List ℕ → Reading
 read bytes =
     pick (eqb (length bytes) 0) (Refused refusal.Short)
-    (pick (eqb (getD bytes 0 0) 1)
+    (pick (eqb (getD bytes 0 0) START)
     (pick (eqb (length bytes) 1) (Refused refusal.Short)
     (sizedOf bytes (getD bytes 1 0)))
     (Refused refusal.Start))

@@ -1,8 +1,13 @@
 // Reading a whole frame (sections 2 and 3).
+use frame::MIN_LENGTH;
+use frame::RES;
+use frame::SEED;
+use frame::START;
 use frame::fold;
 use refusals::Refusal;
 ghost use mathlib.Core.Path.{_≡_};
 ghost use Prim.Native.Nat.{_≤_};
+ghost use Rattle.frame.specs.Frame as frames;
 ghost use Rattle.reading.specs.Reader as spec;
 
 pub enum Reading {
@@ -13,13 +18,13 @@ pub enum Reading {
 
 // What is left to be looked at in a frame that is as long as its Length says. It is given numbers alone, so that it costs `read` no call.
 fn parts_of(kind: u8, command: u8, len: u8, sum: u8, last: u8) -> Reading
-    requires { ⌜ 3 ≤ len ⌝ }
+    requires { ⌜ frames.MIN_LENGTH ≤ len ⌝ }
     ensures { λ r. ⌜ r ≡ spec.partsOf kind command len sum last ⌝ }
 {
     if sum != last {
         return Reading::Refused(Refusal::Sum);
     }
-    if 1 < kind {
+    if RES < kind {
         return Reading::Refused(Refusal::Kind);
     }
     Reading::Parts {
@@ -38,7 +43,7 @@ pub fn read(bytes: &[u8]) -> Reading
         return Reading::Refused(Refusal::Short);
     }
     let first = bytes[0];
-    if first != 1 {
+    if first != START {
         return Reading::Refused(Refusal::Start);
     }
     if n == 1 {
@@ -46,7 +51,7 @@ pub fn read(bytes: &[u8]) -> Reading
     }
     let length = bytes[1];
     let whole = length as usize + 2;
-    if length < 3 {
+    if length < MIN_LENGTH {
         return Reading::Refused(Refusal::Length);
     }
     if n < whole {
@@ -56,6 +61,6 @@ pub fn read(bytes: &[u8]) -> Reading
         return Reading::Refused(Refusal::Tail);
     }
     let end = length as usize + 1;
-    let sum = fold(255, &bytes[1..end]);
+    let sum = fold(SEED, &bytes[1..end]);
     parts_of(bytes[2], bytes[3], length, sum, bytes[end])
 }

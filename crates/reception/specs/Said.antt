@@ -16,11 +16,12 @@ use Rattle.reception.specs.declared.said.Awaited.the-variants as awaited
 use Rattle.reception.specs.declared.said.Reply.{Reply}
 use Rattle.reception.specs.declared.said.Reply.the-variants.{Silent, Ack, Nak}
 use Rattle.reception.specs.declared.said.Said.{Said}
+use Rattle.frame.specs.Frame.{ACK, NAK}
 
 abbrev pub replyBytes : Reply → List ℕ
 replyBytes Silent = []
-replyBytes Ack = 6 ∷ []
-replyBytes Nak = 21 ∷ []
+replyBytes Ack = ACK ∷ []
+replyBytes Nak = NAK ∷ []
 
 abbrev pub saying : Reception → Reply → ℕ → Said
 saying r b n = record { reception = r; reply = b; up = n }

@@ -15,6 +15,7 @@ use Rattle.run.specs.declared.run.Reach.{Reach}
 use mathlib.Core.Bool.{Bool, true, false}
 use Rattle.hearing.specs.declared.hearing.Event.{Event}
 use Rattle.hearing.specs.declared.hearing.Event.the-variants.{Inside, Kept, Skipped, Alone, Ended, TickHunting, TickInside, Aborted}
+use Rattle.frame.specs.Frame.{START, ACK, NAK, CAN}
 
 -- A byte has news if it is a single byte, or ends a frame.
 abbrev pub hasNews : Event → Bool
@@ -73,7 +74,7 @@ pub record Onward (bytes : List ℕ) (r : Reach) (body : List ℕ) (q : Reach) (
 
 -- a byte that is not skipped while hunting
 abbrev pub isSign : ℕ → Bool
-isSign b = pick (eqb b 1) true (pick (eqb b 6) true (pick (eqb b 21) true (eqb b 24)))
+isSign b = pick (eqb b START) true (pick (eqb b ACK) true (pick (eqb b NAK) true (eqb b CAN)))
 
 -- hunting at n, with noise from i on behind it
 abbrev pub skipped : Event → ℕ → ℕ → List ℕ → Far

@@ -1,6 +1,11 @@
 // A run of bytes, heard up to the first byte that has news (section 7): a loop over the bytes that breaks there. A turn of it
 // takes more than one byte where it can: noise and the byte that ends it, an 01 and its Length, or a body in one walk and its
 // checksum.
+use frame::ACK;
+use frame::CAN;
+use frame::MAX_BODY;
+use frame::NAK;
+use frame::START;
 use hearing::Event;
 use hearing::Heard;
 use hearing::Hearing;
@@ -13,6 +18,7 @@ ghost use mathlib.Core.List.{List};
 ghost use Prim.Native.Nat.{ℕ, _+_, _-_, _≤_, _<_, min};
 ghost use lib.ListN.{length};
 ghost use Rattle.frame.specs.Bytes.{fold};
+ghost use Rattle.frame.specs.Frame as frames;
 ghost use Rattle.run.specs.Run as spec;
 ghost use Rattle.run.specs.Run.{HearRun, Noise, Quiet, Onward};
 ghost use Rattle.hearing.specs.declared.hearing.Hearing.the-variants as hearing;
@@ -40,16 +46,16 @@ fn gone(heard: Heard, taken: usize) -> Reach
 fn is_sign(b: u8) -> bool
     ensures { λ r. ⌜ r ≡ spec.isSign b ⌝ }
 {
-    if b == 1 {
+    if b == START {
         return true;
     }
-    if b == 6 {
+    if b == ACK {
         return true;
     }
-    if b == 21 {
+    if b == NAK {
         return true;
     }
-    if b == 24 {
+    if b == CAN {
         return true;
     }
     false
@@ -87,7 +93,7 @@ fn picked(at: u8, place: u8, s: &[u8], old: u8) -> u8
 
 // How many of n bytes have room in the body from `at`: all of them, but in links that no call makes.
 fn fit(n: usize, at: u8) -> usize
-    ensures { λ r. ⌜ r ≡ min n (254 - at) ⌝ }
+    ensures { λ r. ⌜ r ≡ min n (frames.MAX_BODY - at) ⌝ }
 {
     if 254 <= at {
         return 0;
@@ -100,8 +106,8 @@ fn fit(n: usize, at: u8) -> usize
 }
 
 // Body bytes at once: each is kept at its place and folded into the sum.
-fn walk(sum: u8, s: &[u8], at: u8, body: &mut [u8; 254]) -> u8
-    ensures { λ r. ⌜ (r ≡ fold sum (now (s .entry))) × (length (now (body .entry)) ≡ 254 → now (body .exit) ≡ spec.kept (now (body .entry)) at (now (s .entry))) × (length (now (body .exit)) ≡ length (now (body .entry))) ⌝ }
+fn walk(sum: u8, s: &[u8], at: u8, body: &mut [u8; MAX_BODY]) -> u8
+    ensures { λ r. ⌜ (r ≡ fold sum (now (s .entry))) × (length (now (body .entry)) ≡ frames.MAX_BODY → now (body .exit) ≡ spec.kept (now (body .entry)) at (now (s .entry))) × (length (now (body .exit)) ≡ length (now (body .entry))) ⌝ }
 {
     let n = fit(s.len(), at);
     let first = at as usize;
@@ -117,9 +123,9 @@ fn walk(sum: u8, s: &[u8], at: u8, body: &mut [u8; 254]) -> u8
 }
 
 // A half-received frame with these body bytes more.
-fn walked(p: Partial, s: &[u8], body: &mut [u8; 254]) -> Partial
+fn walked(p: Partial, s: &[u8], body: &mut [u8; MAX_BODY]) -> Partial
     requires { ⌜ length (now s) ≤ p .size - p .at ⌝ }
-    ensures { λ r. ⌜ (r ≡ spec.walked p (now (s .entry))) × (length (now (body .entry)) ≡ 254 → now (body .exit) ≡ spec.kept (now (body .entry)) (p .at) (now (s .entry))) × (length (now (body .exit)) ≡ length (now (body .entry))) ⌝ }
+    ensures { λ r. ⌜ (r ≡ spec.walked p (now (s .entry))) × (length (now (body .entry)) ≡ frames.MAX_BODY → now (body .exit) ≡ spec.kept (now (body .entry)) (p .at) (now (s .entry))) × (length (now (body .exit)) ≡ length (now (body .entry))) ⌝ }
 {
     let kind = picked(p.at, 0, s, p.kind);
     let command = picked(p.at, 1, s, p.command);
@@ -150,9 +156,9 @@ fn left(p: Partial, there: usize) -> usize
 }
 
 // Inside a body: what there is of it, and the checksum where it is there too.
-fn body_on(r: Reach, p: Partial, bytes: &[u8], body: &mut [u8; 254]) -> Reach
+fn body_on(r: Reach, p: Partial, bytes: &[u8], body: &mut [u8; MAX_BODY]) -> Reach
     requires { ⌜ Quiet (now bytes) r × (r .hearing ≡ hearing.Body p) ⌝ }
-    ensures { λ q. ⌜ (length (now (body .entry)) ≡ 254 → Onward (now (bytes .entry)) r (now (body .entry)) q (now (body .exit))) × (r .taken < q .taken) × (q .taken ≤ length (now (bytes .entry))) × (length (now (body .exit)) ≡ length (now (body .entry))) ⌝ }
+    ensures { λ q. ⌜ (length (now (body .entry)) ≡ frames.MAX_BODY → Onward (now (bytes .entry)) r (now (body .entry)) q (now (body .exit))) × (r .taken < q .taken) × (q .taken ≤ length (now (bytes .entry))) × (length (now (body .exit)) ≡ length (now (body .entry))) ⌝ }
 {
     let i = r.taken;
     let n = left(p, bytes.len() - i);
@@ -187,7 +193,7 @@ fn hunt_on(r: Reach, bytes: &[u8]) -> Reach
     let i = noise(bytes, r.taken);
     if i < bytes.len() {
         let b = bytes[i];
-        if b == 1 && i + 1 < bytes.len() {
+        if b == START && i + 1 < bytes.len() {
             let heard = measured(0, bytes[i + 1]);
             return gone(heard, i + 2);
         }
@@ -202,9 +208,9 @@ fn hunt_on(r: Reach, bytes: &[u8]) -> Reach
 }
 
 // One turn, by where the hearing stands.
-fn onward(r: Reach, bytes: &[u8], body: &mut [u8; 254]) -> Reach
+fn onward(r: Reach, bytes: &[u8], body: &mut [u8; MAX_BODY]) -> Reach
     requires { ⌜ Quiet (now bytes) r ⌝ }
-    ensures { λ q. ⌜ (length (now (body .entry)) ≡ 254 → Onward (now (bytes .entry)) r (now (body .entry)) q (now (body .exit))) × (r .taken < q .taken) × (q .taken ≤ length (now (bytes .entry))) × (length (now (body .exit)) ≡ length (now (body .entry))) ⌝ }
+    ensures { λ q. ⌜ (length (now (body .entry)) ≡ frames.MAX_BODY → Onward (now (bytes .entry)) r (now (body .entry)) q (now (body .exit))) × (r .taken < q .taken) × (q .taken ≤ length (now (bytes .entry))) × (length (now (body .exit)) ≡ length (now (body .entry))) ⌝ }
 {
     let hearing = r.hearing;
     match hearing {
@@ -231,8 +237,8 @@ fn has_news(event: Event) -> bool
 }
 
 // The bytes heard, up to the first that has news; body bytes are kept.
-pub fn hear_run(before: Hearing, bytes: &[u8], body: &mut [u8; 254]) -> Reach
-    ensures { λ r. ⌜ (length (now (body .entry)) ≡ 254 → HearRun before (now (bytes .entry)) (now (body .entry)) r (now (body .exit))) ⌝ }
+pub fn hear_run(before: Hearing, bytes: &[u8], body: &mut [u8; MAX_BODY]) -> Reach
+    ensures { λ r. ⌜ (length (now (body .entry)) ≡ frames.MAX_BODY → HearRun before (now (bytes .entry)) (now (body .entry)) r (now (body .exit))) ⌝ }
 {
     let mut reach = Reach {
         hearing: before,

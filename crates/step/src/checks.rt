@@ -1,4 +1,8 @@
 // The checks of the link calls (section 3), in their order: the first that is met refuses.
+use frame::LINE_ROOM;
+use frame::MAX_BODY;
+use frame::MAX_PARAMETERS;
+use frame::RES;
 use job::Job;
 use job::is_open;
 use refusals::Refusal;
@@ -14,10 +18,10 @@ pub enum Checked {
 pub fn lacks_room(line: usize, up: usize) -> bool
     ensures { λ r. ⌜ r ≡ lacksRoom line up ⌝ }
 {
-    if line < 258 {
+    if line < LINE_ROOM {
         return true;
     }
-    up < 254
+    up < MAX_BODY
 }
 
 // A send's, for so many parameters.
@@ -30,10 +34,10 @@ pub fn send_checks(line: usize, up: usize, job: Job, kind: u8, n: usize) -> Chec
     if is_open(job) {
         return Checked::Refuses(Refusal::Busy);
     }
-    if 1 < kind {
+    if RES < kind {
         return Checked::Refuses(Refusal::Kind);
     }
-    if 252 < n {
+    if MAX_PARAMETERS < n {
         return Checked::Refuses(Refusal::Long);
     }
     Checked::Passes
@@ -49,7 +53,7 @@ pub fn session_checks(line: usize, up: usize, job: Job, n: usize) -> Checked
     if is_open(job) {
         return Checked::Refuses(Refusal::Busy);
     }
-    if 252 < n {
+    if MAX_PARAMETERS < n {
         return Checked::Refuses(Refusal::Long);
     }
     Checked::Passes

@@ -10,6 +10,7 @@ use Rattle.frame.specs.Bytes.{over}
 use Rattle.refusals.specs.Pick.{pick}
 use Rattle.reception.specs.Said.{replyBytes}
 use Rattle.reception.specs.declared.said.Reply.{Reply}
+use Rattle.frame.specs.Frame.{MAX_FRAME}
 
 -- bytes written over the front of a lent buffer, and how many
 pub record Put (bytes lent : List ℕ) (r : ℕ) (lent′ : List ℕ) : Type 0 where
@@ -25,7 +26,7 @@ abbrev pub byteFits : List ℕ → Bool
 byteFits line = pick (ltb (length line) 1) false true
 
 abbrev pub copyFits : List ℕ → List ℕ → Bool
-copyFits frame line = pick (ltb 257 (length frame)) false (ltb (length frame) (length line))
+copyFits frame line = pick (ltb MAX_FRAME (length frame)) false (ltb (length frame) (length line))
 
 abbrev pub bodyFits : List ℕ → List ℕ → Bool
 bodyFits body up = pick (ltb (length up) (length body)) false true

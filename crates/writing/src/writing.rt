@@ -1,4 +1,7 @@
 // The only writer of lent buffers: what a step puts on the line and hands up.
+use frame::ACK;
+use frame::MAX_FRAME;
+use frame::NAK;
 use reception::Reply;
 use step::Outcome;
 ghost use mathlib.Core.Path.{_≡_};
@@ -17,11 +20,11 @@ pub fn put_reply(reply: Reply, line: &mut [u8]) -> u16
     match reply {
         Reply::Silent => 0,
         Reply::Ack => {
-            line[0] = 6;
+            line[0] = ACK;
             1
         }
         Reply::Nak => {
-            line[0] = 21;
+            line[0] = NAK;
             1
         }
     }
@@ -31,7 +34,7 @@ pub fn put_reply(reply: Reply, line: &mut [u8]) -> u16
 pub fn put_line(outcome: Outcome, size: u16, frame: &[u8], line: &mut [u8]) -> u16
     ensures { λ r. ⌜ PutLine (outcome .reply) (outcome .copy) size (now (frame .entry)) (now (line .entry)) r (now (line .exit)) ⌝ }
 {
-    if 257 < frame.len() {
+    if MAX_FRAME < frame.len() {
         return 0;
     }
     if line.len() <= frame.len() {
