@@ -6,6 +6,7 @@ use frame::CAN;
 use frame::MAX_BODY;
 use frame::NAK;
 use frame::START;
+use frame::least;
 use hearing::Event;
 use hearing::Heard;
 use hearing::Hearing;
@@ -95,14 +96,11 @@ fn picked(at: u8, place: u8, s: &[u8], old: u8) -> u8
 fn fit(n: usize, at: u8) -> usize
     ensures { λ r. ⌜ r ≡ min n (frames.MAX_BODY - at) ⌝ }
 {
-    if 254 <= at {
+    let first = at as usize;
+    if MAX_BODY <= first {
         return 0;
     }
-    let room = (254 - at) as usize;
-    if n <= room {
-        return n;
-    }
-    room
+    least(n, MAX_BODY - first)
 }
 
 // Body bytes at once: each is kept at its place and folded into the sum.
@@ -149,10 +147,7 @@ fn left(p: Partial, there: usize) -> usize
         return 0;
     }
     let n = (p.size - p.at) as usize;
-    if n <= there {
-        return n;
-    }
-    there
+    least(n, there)
 }
 
 // Inside a body: what there is of it, and the checksum where it is there too.
