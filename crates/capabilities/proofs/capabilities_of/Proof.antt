@@ -61,15 +61,18 @@ ones-in-requires c κs = search needs
 
 returns : tie.Need-returns
 returns c =
-    let s = c .before .before .before .before .before .before .before .before .before .before .before .before .before .before in
+    let at-word2 = c .before .before .before .before .before in
+    let at-word = at-word2 .before .before .before in
+    let at-before = at-word .before .before .before .before .before in
+    let s = at-before .before in
     let body = now (s .args .body) in
     let few : length (functionMask body) ≤ 32 = omega (arith, length-drop 10 body) in
     let count : c .ones-in .result ≡ supported body =
     c .ones-in .ensures ∙ ap onesIn (rest 10 body)
-    ∙ ones-supported (functionMask body) (bytes-from 10 body (λ i. c .before .before .before .before .before .before .before .before .before .before .before .before .before .shared-slice-known .given i .fits)) few (s .pre .clear) in
+    ∙ ones-supported (functionMask body) (bytes-from 10 body (λ i. at-before .shared-slice-known .given i .fits)) few (s .pre .clear) in
     answer-by
-    (c .before .before .before .before .before .before .before .before .word .ensures)
-    (c .before .before .before .before .before .word2 .ensures)
+    (at-word .word .ensures)
+    (at-word2 .word2 .ensures)
     (c .before .before .word3 .ensures)
     count
 

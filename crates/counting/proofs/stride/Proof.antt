@@ -79,14 +79,17 @@ add-t11 c = search needs
 
 returns-4 : tie.Need-returns-4
 returns-4 c =
-    let s = c .before .before .before .before .before .before .before .before .before .before .before in
+    let at-fold = c .before .before .before in
+    let at-wide = at-fold .before .before .before .before in
+    let at-before = at-wide .before .before .before in
+    let s = at-before .before in
     let bytes = now (s .args .bytes) in
     let i = s .args .i in
-    let size = c .before .before .before .before .before .before .before .wide .result in
-    let w = c .before .before .before .before .before .before .before .wide .ensures in
+    let size = at-wide .wide .result in
+    let w = at-wide .wide .ensures in
     let part : i + 1 + size - (i + 1) ≡ size = omega arith in
-    let sum : c .before .before .before .fold .result ≡ fold 255 (take size (drop (i + 1) bytes)) =
-    c .before .before .before .fold .ensures ∙ ap (λ (n : ℕ). fold 255 (take n (drop (i + 1) bytes))) part in
+    let sum : at-fold .fold .result ≡ fold 255 (take size (drop (i + 1) bytes)) =
+    at-fold .fold .ensures ∙ ap (λ (n : ℕ). fold 255 (take n (drop (i + 1) bytes))) part in
     counts-are
     (c .count-whole .ensures ∙ ap (λ (n : ℕ). added n (s .args .counts)) (ap (λ (x : ℕ). whole (getD bytes (i + 2) 0) x (getD bytes (i + 1 + size) 0)) sum))
     (whole-at bytes i (s .args .counts) size (i + 1 + size) (s .pre .1) (sym (w .0)) (omega arith) refl (omega arith))

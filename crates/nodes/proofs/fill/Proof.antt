@@ -47,8 +47,10 @@ same-length c = search needs
 
 returns : tie.Need-returns
 returns c =
-    let s = c .before .before .before .before .before .before .before .before .before .before .before .before in
-    filled (now (s .args .body)) (now (s .args .list)) _ (c .before .before .before .before .before .before .list-nodes .result) (c .before .before .before .before .before .before .list-nodes .ensures)
+    let at-list-nodes = c .before .before .before .before .before .before in
+    let at-before = at-list-nodes .before .before .before .before .before in
+    let s = at-before .before in
+    filled (now (s .args .body)) (now (s .args .list)) _ (at-list-nodes .list-nodes .result) (at-list-nodes .list-nodes .ensures)
 
 pub fill-spec : {M : Type 1} → statement M
 fill-spec =

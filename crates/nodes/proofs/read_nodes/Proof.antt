@@ -33,7 +33,8 @@ same-length c = search needs
 
 returns-3 : tie.Need-returns-3
 returns-3 c =
-    let s = c .before .before .before .before .before .before .before .before .before in
+    let near = c .before .before .before .before in
+    let s = near .before .before .before .before .before in
     let body = now (s .args .body) in
     let lent = now (s .args .list) in
     let f = c .before .before .fill .ensures in

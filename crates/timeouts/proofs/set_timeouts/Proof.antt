@@ -46,10 +46,15 @@ same-length c = search needs
 
 returns-3 : tie.Need-returns-3
 returns-3 c =
-    let a = c .before .before .before .before .before .before .before .before .before .before .before .before .before .before .args in
+    let at-byte = c .before .before .before .before .before .before in
+    let at-ticks-of2 = at-byte .before .before in
+    let at-ack = at-ticks-of2 .before .before in
+    let at-ticks-of = at-ack .before .before in
+    let start = at-ticks-of .before .before in
+    let a = start .args in
     both-taken (a .rxack) (a .rxbyte) (now (a .lent)) _ _ _ _
-    (sym (c .before .before .before .before .before .before .before .before .before .before .before .before .ticks-of .ensures) ∙ c .before .before .before .before .before .before .before .before .before .before .ack .given .1)
-    (sym (c .before .before .before .before .before .before .before .before .ticks-of2 .ensures) ∙ c .before .before .before .before .before .before .byte .given .1)
+    (sym (at-ticks-of .ticks-of .ensures) ∙ at-ack .ack .given .1)
+    (sym (at-ticks-of2 .ticks-of2 .ensures) ∙ at-byte .byte .given .1)
     (c .before .before .build .ensures)
 
 pub set-timeouts-spec : {M : Type 1} → statement M

@@ -38,7 +38,15 @@ mix-requires-5 : tie.Need-mix-requires-5
 mix-requires-5 c κs = search needs
 
 returns : tie.Need-returns
-returns c = simp (c .mix5 .ensures, c .before .before .mix4 .ensures, c .before .before .before .before .mix3 .ensures, c .before .before .before .before .before .reset-number .ensures, c .before .before .before .before .before .before .mix2 .ensures, c .before .before .before .before .before .before .before .session-number .ensures, c .before .before .before .before .before .before .before .before .mix .ensures, c .before .before .before .before .before .before .before .before .before .sending-number .ensures, c .before .before .before .before .before .before .before .before .before .before .reception-number .ensures)
+returns c =
+    let at-mix3 = c .before .before .before .before in
+    let at-reset-number = at-mix3 .before in
+    let at-mix2 = at-reset-number .before in
+    let at-session-number = at-mix2 .before in
+    let at-mix = at-session-number .before in
+    let at-sending-number = at-mix .before in
+    let at-reception-number = at-sending-number .before in
+    simp (c .mix5 .ensures, c .before .before .mix4 .ensures, at-mix3 .mix3 .ensures, at-reset-number .reset-number .ensures, at-mix2 .mix2 .ensures, at-session-number .session-number .ensures, at-mix .mix .ensures, at-sending-number .sending-number .ensures, at-reception-number .reception-number .ensures)
 
 pub report-number-spec : {M : Type 1} → statement M
 report-number-spec =

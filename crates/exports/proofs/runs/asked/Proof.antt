@@ -20,9 +20,12 @@ same-length-2 c = search needs
 
 returns : tie.Need-returns
 returns c =
-    let a = c .before .before .before .before .before .before .before .before .before .before .before .before .before .args in
-    asked-on (now (a .parameters)) (now (a .line)) (now (a .up)) (c .before .before .before .before .before .before .before .before .before .«open» .result) (c .before .before .before .before .before .before .before .before .before .«open» .ensures) (a .asks) _ _ _ (c .before .before .before .before .before .before .before .before .if1 .taken)
-    (c .before .before .before .before .before .session .ensures)
+    let at-session = c .before .before .before .before .before in
+    let at-before = at-session .before .before .before in
+    let start = at-before .before .before .before .before .before in
+    let a = start .args in
+    asked-on (now (a .parameters)) (now (a .line)) (now (a .up)) (at-before .before .«open» .result) (at-before .before .«open» .ensures) (a .asks) _ _ _ (at-before .if1 .taken)
+    (at-session .session .ensures)
 
 returns-2 : tie.Need-returns-2
 returns-2 c =

@@ -46,14 +46,18 @@ loop-less c = omega arith
 
 loop-again : tie.Need-loop-again Inv-loop μ-loop
 loop-again c =
-    let l = c .before .before .before .before .before .before .before .before .before .before .before .before .loop in
-    let a = c .before .before .before .before .before .before .before .before .before .before .before .before .before .before .before .before .args in (
+    let at-byte = c .before .before .before .before .before .before .before in
+    let at-loop-test = at-byte .before .before .before .before in
+    let at-loop = at-loop-test .before in
+    let start = at-loop .before .before .before .before in
+    let l = at-loop .loop in
+    let a = start .args in (
       omega arith,
       omega arith,
       omega arith,
       l .inv .3
-          ∙ bytes-on (now (a .line)) (now (a .up)) (l .link) (l .line) (l .up) (l .sum) (l .i) (now (a .input)) _ _ _ _ _ (c .before .before .before .before .before .before .before .before .before .before .before .loop-test .taken) (l .inv .1) (l .inv .2)
-          (c .before .before .before .before .before .before .before .byte .ensures) (c .mix .ensures) (c .before .answer-number .ensures),
+          ∙ bytes-on (now (a .line)) (now (a .up)) (l .link) (l .line) (l .up) (l .sum) (l .i) (now (a .input)) _ _ _ _ _ (at-loop-test .loop-test .taken) (l .inv .1) (l .inv .2)
+          (at-byte .byte .ensures) (c .mix .ensures) (c .before .answer-number .ensures),
     )
 
 same-length : tie.Need-same-length Inv-loop μ-loop

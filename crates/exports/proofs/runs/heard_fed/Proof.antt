@@ -20,8 +20,11 @@ same-length-2 c = search needs
 
 returns : tie.Need-returns
 returns c =
-    let a = c .before .before .before .before .before .before .before .before .before .before .before .before .before .before .before .before .before .before .before .args in
-    heard-on (now (a .heard)) _ _ _ _ _ _ _ _ (c .before .before .before .before .before .before .before .before .before .before .before .before .asked .ensures) (c .before .before .before .before .before .bytes-fed .ensures)
+    let at-bytes-fed = c .before .before .before .before .before in
+    let at-asked = at-bytes-fed .before .before .before .before .before .before .before in
+    let start = at-asked .before .before .before .before .before .before .before in
+    let a = start .args in
+    heard-on (now (a .heard)) _ _ _ _ _ _ _ _ (at-asked .asked .ensures) (at-bytes-fed .bytes-fed .ensures)
 
 pub heard-fed-spec : {M : Type 1} → statement M
 heard-fed-spec = tie.close (tie.spec asked-requires bytes-fed-requires same-length same-length-2 returns)

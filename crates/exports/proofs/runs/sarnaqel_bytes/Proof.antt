@@ -25,10 +25,13 @@ same-length-2 c = search needs
 
 returns : tie.Need-returns
 returns c =
-    let a = c .before .before .before .before .before .before .before .before .before .before .before .args in
+    let at-bytes-fed = c .before .before .before .before in
+    let at-before = at-bytes-fed .before .before in
+    let start = at-before .before .before .before .before .before in
+    let a = start .args in
     ended _ _ _ _ _
-    (ap (λ (x : Link). bytesFed (checks (now (a .line)) (now (a .up)) Passes) (at x (now (a .line)) (now (a .up)) 0) (now (a .input))) (sym (c .before .before .before .before .before .before .before .«open» .ensures))
-    ∙ c .before .before .before .before .bytes-fed .ensures)
+    (ap (λ (x : Link). bytesFed (checks (now (a .line)) (now (a .up)) Passes) (at x (now (a .line)) (now (a .up)) 0) (now (a .input))) (sym (at-before .before .«open» .ensures))
+    ∙ at-bytes-fed .bytes-fed .ensures)
 
 pub sarnaqel-bytes-spec : {M : Type 1} → statement M
 sarnaqel-bytes-spec =

@@ -72,37 +72,59 @@ same-length-2 c = omega arith
 
 returns : tie.Need-returns Inv-loop μ-loop
 returns c =
-    let l = c .before .before .before .before .before .before .before .before .before .before .before .before .before .before .before .loop in
-    let a = c .before .before .before .before .before .before .before .before .before .before .before .before .before .before .before .before .before .before .before .before .args in
-    let start = ap (λ (x : Link). runsFed (length (now (a .input))) (checks (now (a .line)) (now (a .up)) Passes) (a .most) (fed x (now (a .line)) (now (a .up)) 0) (now (a .input))) (sym (c .before .before .before .before .before .before .before .before .before .before .before .before .before .before .before .before .«open» .ensures)) in
+    let at-tale-of = c .before .before .before in
+    let at-bytes = at-tale-of .before .before .before .before .before .before in
+    let at-least = at-bytes .before .before .before .before in
+    let at-loop-test = at-least .before in
+    let at-loop = at-loop-test .before in
+    let start = at-loop .before .before .before .before .before in
+    let l = at-loop .loop in
+    let a = start .args in
+    let start = ap (λ (x : Link). runsFed (length (now (a .input))) (checks (now (a .line)) (now (a .up)) Passes) (a .most) (fed x (now (a .line)) (now (a .up)) 0) (now (a .input))) (sym (at-loop .before .«open» .ensures)) in
     ended _ _ _ _ _
     (start ∙ l .inv .5
     ∙ runs-stop (now (a .line)) (now (a .up)) (a .most) (now (a .input)) (l .link) (l .line) (l .up) (l .sum) (l .at) _ _ _ _ _ _ _ _
-    (part-given (l .at) _ (a .most) (now (a .input)) (c .before .before .before .before .before .before .before .before .before .before .before .before .before .least .ensures)) (l .inv .1) (l .inv .2) (c .before .before .before .before .before .before .before .before .before .bytes .ensures) (c .before .before .before .tale-of .ensures .0) (c .before .before .before .tale-of .ensures .1) (c .before .before .mix .ensures) (c .before .mix2 .ensures)
-    (l .inv .3) (c .before .before .before .before .before .before .before .before .before .before .before .before .before .before .loop-test .taken) (omega arith) (c .if1 .taken))
+    (part-given (l .at) _ (a .most) (now (a .input)) (at-least .least .ensures)) (l .inv .1) (l .inv .2) (at-bytes .bytes .ensures) (at-tale-of .tale-of .ensures .0) (at-tale-of .tale-of .ensures .1) (c .before .before .mix .ensures) (c .before .mix2 .ensures)
+    (l .inv .3) (at-loop-test .loop-test .taken) (omega arith) (c .if1 .taken))
 
 add-at : tie.Need-add-at Inv-loop μ-loop
 add-at c =
-    let l = c .before .before .before .before .before .before .before .before .before .before .before .before .before .before .before .loop in
-    let a = c .before .before .before .before .before .before .before .before .before .before .before .before .before .before .before .before .before .before .before .before .args in
+    let at-tale-of = c .before .before .before in
+    let at-bytes = at-tale-of .before .before .before .before .before .before in
+    let at-least = at-bytes .before .before .before .before in
+    let at-loop = at-least .before .before in
+    let start = at-loop .before .before .before .before .before in
+    let l = at-loop .loop in
+    let a = start .args in
     let most = taken-left (now (a .line)) (now (a .up)) (a .most) (now (a .input)) (l .link) (l .line) (l .up) (l .sum) (l .at) _ _ _ _ _ _ _ _
-    (part-given (l .at) _ (a .most) (now (a .input)) (c .before .before .before .before .before .before .before .before .before .before .before .before .before .least .ensures)) (l .inv .1) (l .inv .2) (c .before .before .before .before .before .before .before .before .before .bytes .ensures) (c .before .before .before .tale-of .ensures .0) (c .before .before .before .tale-of .ensures .1) (c .before .before .mix .ensures) (c .before .mix2 .ensures) in
-    omega (arith, c .before .before .before .before .before .before .before .before .before .before .before .before .before .before .before .before .before .before .before .before .good .0 .0, most)
+    (part-given (l .at) _ (a .most) (now (a .input)) (at-least .least .ensures)) (l .inv .1) (l .inv .2) (at-bytes .bytes .ensures) (at-tale-of .tale-of .ensures .0) (at-tale-of .tale-of .ensures .1) (c .before .before .mix .ensures) (c .before .mix2 .ensures) in
+    omega (arith, start .good .0 .0, most)
 
 loop-less : tie.Need-loop-less Inv-loop μ-loop
 loop-less c =
-    let l = c .before .before .before .before .before .before .before .before .before .before .before .before .before .before .before .loop in
-    let a = c .before .before .before .before .before .before .before .before .before .before .before .before .before .before .before .before .before .before .before .before .args in
+    let at-tale-of = c .before .before .before in
+    let at-bytes = at-tale-of .before .before .before .before .before .before in
+    let at-least = at-bytes .before .before .before .before in
+    let at-loop = at-least .before .before in
+    let start = at-loop .before .before .before .before .before in
+    let l = at-loop .loop in
+    let a = start .args in
     let most = taken-left (now (a .line)) (now (a .up)) (a .most) (now (a .input)) (l .link) (l .line) (l .up) (l .sum) (l .at) _ _ _ _ _ _ _ _
-    (part-given (l .at) _ (a .most) (now (a .input)) (c .before .before .before .before .before .before .before .before .before .before .before .before .before .least .ensures)) (l .inv .1) (l .inv .2) (c .before .before .before .before .before .before .before .before .before .bytes .ensures) (c .before .before .before .tale-of .ensures .0) (c .before .before .before .tale-of .ensures .1) (c .before .before .mix .ensures) (c .before .mix2 .ensures) in
+    (part-given (l .at) _ (a .most) (now (a .input)) (at-least .least .ensures)) (l .inv .1) (l .inv .2) (at-bytes .bytes .ensures) (at-tale-of .tale-of .ensures .0) (at-tale-of .tale-of .ensures .1) (c .before .before .mix .ensures) (c .before .mix2 .ensures) in
     omega (arith, most)
 
 loop-again : tie.Need-loop-again Inv-loop μ-loop
 loop-again c =
-    let l = c .before .before .before .before .before .before .before .before .before .before .before .before .before .before .before .loop in
-    let a = c .before .before .before .before .before .before .before .before .before .before .before .before .before .before .before .before .before .before .before .before .args in
+    let at-tale-of = c .before .before .before in
+    let at-bytes = at-tale-of .before .before .before .before .before .before in
+    let at-least = at-bytes .before .before .before .before in
+    let at-loop-test = at-least .before in
+    let at-loop = at-loop-test .before in
+    let start = at-loop .before .before .before .before .before in
+    let l = at-loop .loop in
+    let a = start .args in
     let most = taken-left (now (a .line)) (now (a .up)) (a .most) (now (a .input)) (l .link) (l .line) (l .up) (l .sum) (l .at) _ _ _ _ _ _ _ _
-    (part-given (l .at) _ (a .most) (now (a .input)) (c .before .before .before .before .before .before .before .before .before .before .before .before .before .least .ensures)) (l .inv .1) (l .inv .2) (c .before .before .before .before .before .before .before .before .before .bytes .ensures) (c .before .before .before .tale-of .ensures .0) (c .before .before .before .tale-of .ensures .1) (c .before .before .mix .ensures) (c .before .mix2 .ensures) in (
+    (part-given (l .at) _ (a .most) (now (a .input)) (at-least .least .ensures)) (l .inv .1) (l .inv .2) (at-bytes .bytes .ensures) (at-tale-of .tale-of .ensures .0) (at-tale-of .tale-of .ensures .1) (c .before .before .mix .ensures) (c .before .mix2 .ensures) in (
       omega (arith, most),
       omega arith,
       omega arith,
@@ -110,8 +132,8 @@ loop-again c =
       omega (arith, most),
       l .inv .5
           ∙ runs-on (now (a .line)) (now (a .up)) (a .most) (now (a .input)) (l .link) (l .line) (l .up) (l .sum) (l .at) _ _ _ _ _ _ _ _
-          (part-given (l .at) _ (a .most) (now (a .input)) (c .before .before .before .before .before .before .before .before .before .before .before .before .before .least .ensures)) (l .inv .1) (l .inv .2) (c .before .before .before .before .before .before .before .before .before .bytes .ensures) (c .before .before .before .tale-of .ensures .0) (c .before .before .before .tale-of .ensures .1) (c .before .before .mix .ensures) (c .before .mix2 .ensures)
-          (l .inv .3) (c .before .before .before .before .before .before .before .before .before .before .before .before .before .before .loop-test .taken) (omega arith) (c .if1 .left),
+          (part-given (l .at) _ (a .most) (now (a .input)) (at-least .least .ensures)) (l .inv .1) (l .inv .2) (at-bytes .bytes .ensures) (at-tale-of .tale-of .ensures .0) (at-tale-of .tale-of .ensures .1) (c .before .before .mix .ensures) (c .before .mix2 .ensures)
+          (l .inv .3) (at-loop-test .loop-test .taken) (omega arith) (c .if1 .left),
     )
 
 same-length-3 : tie.Need-same-length-3 Inv-loop μ-loop

@@ -21,8 +21,11 @@ same-length-2 c = search needs
 
 returns : tie.Need-returns
 returns c =
-    let a = c .before .before .before .before .before .before .before .before .before .before .before .before .before .before .before .before .before .before .args in
-    ready-ticks _ (c .before .before .before .before .before .before .before .before .before .before .before .heard-fed .result) _ _ (now (a .line)) (now (a .up)) _ _ (a .n) _ (omega arith) (omega arith) (c .before .before .before .before .before .before .before .before .before .before .before .heard-fed .ensures) (c .before .before .before .before .ticks-fed .ensures)
+    let at-ticks-fed = c .before .before .before .before in
+    let at-heard-fed = at-ticks-fed .before .before .before .before .before .before .before in
+    let start = at-heard-fed .before .before .before .before .before .before .before in
+    let a = start .args in
+    ready-ticks _ (at-heard-fed .heard-fed .result) _ _ (now (a .line)) (now (a .up)) _ _ (a .n) _ (omega arith) (omega arith) (at-heard-fed .heard-fed .ensures) (at-ticks-fed .ticks-fed .ensures)
 
 pub sarnaqel-ticks-spec : {M : Type 1} → statement M
 sarnaqel-ticks-spec =

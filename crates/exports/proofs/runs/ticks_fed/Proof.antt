@@ -36,21 +36,28 @@ mix-requires : tie.Need-mix-requires Inv-loop μ-loop
 mix-requires c κs = search needs
 
 add-i : tie.Need-add-i Inv-loop μ-loop
-add-i c = omega (arith, c .before .before .before .before .before .before .before .before .before .before .before .before .before .before .fits .n)
+add-i c =
+    let on-at-fits = c .before .before .before .before .before .before .before .before in
+    let at-fits = on-at-fits .before .before .before .before .before .before in
+    omega (arith, at-fits .fits .n)
 
 loop-less : tie.Need-loop-less Inv-loop μ-loop
 loop-less c = omega arith
 
 loop-again : tie.Need-loop-again Inv-loop μ-loop
 loop-again c =
-    let l = c .before .before .before .before .before .before .before .before .before .before .before .loop in
-    let a = c .before .before .before .before .before .before .before .before .before .before .before .before .before .before .args in (
+    let at-tick = c .before .before .before .before .before .before .before in
+    let at-loop-test = at-tick .before .before .before in
+    let at-loop = at-loop-test .before in
+    let start = at-loop .before .before .before in
+    let l = at-loop .loop in
+    let a = start .args in (
       omega arith,
       omega arith,
       omega arith,
       l .inv .3
-          ∙ ticks-on (now (a .line)) (now (a .up)) (l .link) (l .line) (l .up) (l .sum) (l .i) (a .n) _ _ _ _ _ (c .before .before .before .before .before .before .before .before .before .before .loop-test .taken) (l .inv .1) (l .inv .2)
-          (c .before .before .before .before .before .before .before .tick .ensures) (c .mix .ensures) (c .before .answer-number .ensures),
+          ∙ ticks-on (now (a .line)) (now (a .up)) (l .link) (l .line) (l .up) (l .sum) (l .i) (a .n) _ _ _ _ _ (at-loop-test .loop-test .taken) (l .inv .1) (l .inv .2)
+          (at-tick .tick .ensures) (c .mix .ensures) (c .before .answer-number .ensures),
     )
 
 same-length : tie.Need-same-length Inv-loop μ-loop

@@ -57,9 +57,11 @@ same-length c = simp length-set (simp length-set at (laid-length (c .before .bef
 
 returns : tie.Need-returns
 returns c =
-    let a = c .before .before .before .before .before .before .before .before .before .args in
-    let h : length (now (a .parameters)) + 5 ≤ length (now (a .lent)) = c .before .before .before .before .before .before .before .before .before .pre .1 in
-    let e = laid-over (now (a .lent)) (now (a .parameters)) (a .kind) (a .command) h (c .before .before .before .before .before .lay .ensures) in
+    let at-lay = c .before .before .before .before .before in
+    let start = at-lay .before .before .before .before in
+    let a = start .args in
+    let h : length (now (a .parameters)) + 5 ≤ length (now (a .lent)) = start .pre .1 in
+    let e = laid-over (now (a .lent)) (now (a .parameters)) (a .kind) (a .command) h (at-lay .lay .ensures) in
     framed-over (now (a .lent)) (now (a .parameters)) (a .kind) (a .command) (c .fold .result) h e (c .fold .ensures)
 
 pub write-spec : {M : Type 1} → statement M

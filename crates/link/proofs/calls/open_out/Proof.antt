@@ -38,12 +38,16 @@ same-length c = search needs
 returns : tie.Need-returns
 unfolding openOut
 returns c =
-    let st = c .before .before .before .before .before .before .before .before .before .before .before .before .before .before in
+    let at-opening = c .before .before .before .before in
+    let at-is-hunting = at-opening .before in
+    let at-build = at-is-hunting .before .before in
+    let at-before = at-build .before .before .before .before .before .before in
+    let st = at-before .before in
     let a = st .args in
     let ps = now (a .parameters) in
     let n = sizes (a .link) _ (st .good .0) .1 in
-    let f = held (a .kind) (a .command) ps (a .link .frame) (st .pre .1) (st .pre .2) n (c .before .before .before .before .before .before .before .build .ensures) in
-    emitted-are (simp (f, c .before .before .before .before .opening .ensures, c .before .before .before .before .before .is-hunting .ensures, frame-length)) (c .before .before .emit .ensures)
+    let f = held (a .kind) (a .command) ps (a .link .frame) (st .pre .1) (st .pre .2) n (at-build .build .ensures) in
+    emitted-are (simp (f, at-opening .opening .ensures, at-is-hunting .is-hunting .ensures, frame-length)) (c .before .before .emit .ensures)
 
 pub open-out-spec : {M : Type 1} → statement M
 open-out-spec =

@@ -84,14 +84,21 @@ parts-of-requires c κs = search needs
 
 returns-7 : tie.Need-returns-7
 returns-7 c =
+    let at-fold = c .before .before .before .before in
+    let at-if6 = at-fold .before .before in
+    let at-if5 = at-if6 .before in
+    let at-if4 = at-if5 .before in
+    let at-if3 = at-if4 .before .before in
+    let at-if2 = at-if3 .before in
+    let at-if1 = at-if2 .before .before in
     simp (
-      ne-eqb _ _ (c .before .before .before .before .before .before .before .before .before .before .before .before .before .if1 .left),
-      eq-eqb _ _ (c .before .before .before .before .before .before .before .before .before .before .before .if2 .left),
-      ne-eqb _ _ (c .before .before .before .before .before .before .before .before .before .before .if3 .left),
-      le-ltb _ _ (c .before .before .before .before .before .before .before .before .if4 .left),
-      le-ltb _ _ (c .before .before .before .before .before .before .before .if5 .left),
-      le-ltb _ _ (c .before .before .before .before .before .before .if6 .left),
-      ← (simp add-sub-cancel at (c .before .before .before .before .fold .ensures)),
+      ne-eqb _ _ (at-if1 .if1 .left),
+      eq-eqb _ _ (at-if2 .if2 .left),
+      ne-eqb _ _ (at-if3 .if3 .left),
+      le-ltb _ _ (at-if4 .if4 .left),
+      le-ltb _ _ (at-if5 .if5 .left),
+      le-ltb _ _ (at-if6 .if6 .left),
+      ← (simp add-sub-cancel at (at-fold .fold .ensures)),
     )
     (c .parts-of .ensures)
 

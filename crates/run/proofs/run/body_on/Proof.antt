@@ -48,7 +48,8 @@ gone-requires c κs = search needs
 
 returns : tie.Need-returns
 returns c =
-    let st = c .before .before .before .before .before .before .before .before .before in
+    let near = c .before .before .before .before in
+    let st = near .before .before .before .before .before in
     let a = st .args in
     let bs = now (a .bytes) in
     let i = a .r .taken in

@@ -41,7 +41,8 @@ gone-requires c κs = search needs
 -- an 01 and its Length
 returns : tie.Need-returns
 returns c =
-    let st = c .before .before .before .before .before .before .before .before .before in
+    let near = c .before .before .before .before in
+    let st = near .before .before .before .before .before in
     let a = st .args in
     let n = c .before .before .before .before .before .before .before .noise in
     let there : n .result + 1 < length (now (a .bytes)) = ltb-true _ _ (c .before .before .before .if3 .taken) in

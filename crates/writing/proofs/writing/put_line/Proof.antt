@@ -38,24 +38,35 @@ cast-result c = search needs
 
 add-result : tie.Need-add-result
 add-result c =
-    let a = c .before .before .before .before .before .before .before .before .before .before .before .before .before .before .args in
+    let at-least = c .before .before .before .before in
+    let at-put-reply = at-least .before .before .before .before in
+    let at-if2 = at-put-reply .before .before in
+    let at-if1 = at-if2 .before in
+    let start = at-if1 .before .before .before in
+    let a = start .args in
     let frame = now (a .frame) in
     let line = now (a .line) in
-    let put = simp (le-ltb (length line) 1 (omega (arith, c .before .before .before .before .before .before .before .before .before .before .if2 .left))) at (c .before .before .before .before .before .before .before .before .put-reply .ensures) in
-    omega (arith, put .count, reply-short (a .outcome .reply), c .before .before .before .before .least .ensures, min-le-right (a .size) (length frame), c .before .before .before .before .before .before .before .before .before .before .before .if1 .left)
+    let put = simp (le-ltb (length line) 1 (omega (arith, at-if2 .if2 .left))) at (at-put-reply .put-reply .ensures) in
+    omega (arith, put .count, reply-short (a .outcome .reply), at-least .least .ensures, min-le-right (a .size) (length frame), at-if1 .if1 .left)
 
 same-length : tie.Need-same-length
 same-length c = search needs
 
 returns-3 : tie.Need-returns-3
 returns-3 c =
-    let a = c .before .before .before .before .before .before .before .before .before .before .before .before .before .before .args in
+    let at-least = c .before .before .before .before in
+    let at-if3 = at-least .before in
+    let at-put-reply = at-if3 .before .before .before in
+    let at-if2 = at-put-reply .before .before in
+    let at-if1 = at-if2 .before in
+    let start = at-if1 .before .before .before in
+    let a = start .args in
     let frame = now (a .frame) in
     let line = now (a .line) in
-    let put = simp (le-ltb (length line) 1 (omega (arith, c .before .before .before .before .before .before .before .before .before .before .if2 .left))) at (c .before .before .before .before .before .before .before .before .put-reply .ensures) in
+    let put = simp (le-ltb (length line) 1 (omega (arith, at-if2 .if2 .left))) at (at-put-reply .put-reply .ensures) in
     record {
-      put = simp (le-ltb _ _ (c .before .before .before .before .before .before .before .before .before .before .before .if1 .left), lt-ltb _ _ (c .before .before .before .before .before .before .before .before .before .before .if2 .left), c .before .before .before .before .before .if3 .taken)
-          (put-behind (replyBytes (a .outcome .reply)) frame line (a .size) _ _ (put .count) (put .left) (c .before .before .before .before .least .ensures) (omega (arith, c .before .before .before .before .before .before .before .before .before .before .if2 .left, reply-short (a .outcome .reply))) (c .before .before .lay .ensures));
+      put = simp (le-ltb _ _ (at-if1 .if1 .left), lt-ltb _ _ (at-if2 .if2 .left), at-if3 .if3 .taken)
+          (put-behind (replyBytes (a .outcome .reply)) frame line (a .size) _ _ (put .count) (put .left) (at-least .least .ensures) (omega (arith, at-if2 .if2 .left, reply-short (a .outcome .reply))) (c .before .before .lay .ensures));
     }
 
 same-length-2 : tie.Need-same-length-2
@@ -63,13 +74,17 @@ same-length-2 c = search needs
 
 returns-4 : tie.Need-returns-4
 returns-4 c =
-    let a = c .before .before .before .before .before .before .before .before .before .args in
+    let at-put-reply = c .before .before .before in
+    let at-if2 = at-put-reply .before .before in
+    let at-if1 = at-if2 .before in
+    let start = at-if1 .before .before .before in
+    let a = start .args in
     let frame = now (a .frame) in
     let line = now (a .line) in
-    let put = simp (le-ltb (length line) 1 (omega (arith, c .before .before .before .before .before .if2 .left))) at (c .before .before .before .put-reply .ensures) in
+    let put = simp (le-ltb (length line) 1 (omega (arith, at-if2 .if2 .left))) at (at-put-reply .put-reply .ensures) in
     let e = sym (append-nil (replyBytes (a .outcome .reply))) in
     record {
-      put = simp (le-ltb _ _ (c .before .before .before .before .before .before .if1 .left), lt-ltb _ _ (c .before .before .before .before .before .if2 .left), c .if3 .left)
+      put = simp (le-ltb _ _ (at-if1 .if1 .left), lt-ltb _ _ (at-if2 .if2 .left), c .if3 .left)
           (record { count = put .count ∙ ap length e; left = put .left ∙ ap (λ (bs : List ℕ). over bs line) e });
     }
 

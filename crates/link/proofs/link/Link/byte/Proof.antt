@@ -1,4 +1,4 @@
--- `link::state::Link::byte` meets its contract.
+-- `link::link::Link::byte` meets its contract.
 -- Assumes nothing.
 use mathlib.Core.Path.{sym, _∙_}
 use lib.ListN.{length}
@@ -59,23 +59,33 @@ same-length-2 c = search needs
 returns-2 : tie.Need-returns-2
 unfolding byteOut
 returns-2 c =
-    let a = c .before .before .before .before .before .before .before .before .before .before .before .before .before .before .before .before .before .before .before .before .before .before .before .before .before .args in
+    let at-put-up = c .before .before .before .before in
+    let at-put-up-2 = at-put-up .before .before in
+    let at-put-line = at-put-up-2 .before .before .before .before .before in
+    let at-put-line-2 = at-put-line .before .before in
+    let at-keep = at-put-line-2 .before .before .before in
+    let at-decide = at-keep .before .before in
+    let at-hear-byte = at-decide .before in
+    let at-if1 = at-hear-byte .before .before in
+    let at-lacks-room = at-if1 .before in
+    let start = at-lacks-room .before .before .before in
+    let a = start .args in
     let line = now (a .line) in
     let up = now (a .up) in
-    let z = sizes (a .self) _ (c .before .before .before .before .before .before .before .before .before .before .before .before .before .before .before .before .before .before .before .before .before .before .before .before .before .good .0) in
-    let r = sym (c .before .before .before .before .before .before .before .before .before .before .before .before .before .before .before .before .before .before .before .before .before .before .lacks-room .ensures) ∙ c .before .before .before .before .before .before .before .before .before .before .before .before .before .before .before .before .before .before .before .before .before .if1 .left in
+    let z = sizes (a .self) _ (start .good .0) in
+    let r = sym (at-lacks-room .lacks-room .ensures) ∙ at-if1 .if1 .left in
     let w = has-room (length line) (length up) r in
-    let h = c .before .before .before .before .before .before .before .before .before .before .before .before .before .before .before .before .before .before .before .hear-byte .ensures in
-    let d = c .before .before .before .before .before .before .before .before .before .before .before .before .before .before .before .before .before .before .decide .ensures in
-    let k = c .before .before .before .before .before .before .before .before .before .before .before .before .before .before .before .before .keep .ensures (z .0) in
-    let o = c .before .before .before .before .before .before .before .before .before .before .before .put-line .ensures in
-    let f = c .before .before .before .before .before .before .before .before .before .before .before .before .before .put-line-arg2 .given .0 in
+    let h = at-hear-byte .hear-byte .ensures in
+    let d = at-decide .decide .ensures in
+    let k = at-keep .keep .ensures (z .0) in
+    let o = at-put-line .put-line .ensures in
+    let f = at-put-line-2 .put-line-arg2 .given .0 in
     let l = line-in o f (w .0) in
     let m = line-counts o f (w .0) (a .self .frame) (z .1) in
-    let g = c .before .before .before .before .before .before .put-up-arg2 .given .0 in
-    let p = c .before .before .before .before .put-up .ensures in
+    let g = at-put-up-2 .put-up-arg2 .given .0 in
+    let p = at-put-up .put-up .ensures in
     let u = up-in p g (w .1) in
-    let n = up-counts p g (w .1) k (keep-length (c .before .before .before .before .before .before .before .before .before .before .before .before .before .before .before .before .before .before .before .hear-byte .result .event) (a .b) (a .self .body) ∙ z .0) in
+    let n = up-counts p g (w .1) k (keep-length (at-hear-byte .hear-byte .result .event) (a .b) (a .self .body) ∙ z .0) in
     give Passes (byteOut base (a .self) (a .b)) (a .self) line up (roomy line up Passes r)
     (simp (c .core-of .ensures, c .before .report-of .ensures, m, n, k, d, h))
     (l .left ∙ simp (d, h)) (u .left ∙ simp (k, d, h))

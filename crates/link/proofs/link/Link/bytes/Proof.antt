@@ -1,4 +1,4 @@
--- `link::state::Link::bytes` meets its contract.
+-- `link::link::Link::bytes` meets its contract.
 -- Assumes nothing.
 use mathlib.Core.Path.{sym, ap, _∙_}
 use lib.ListN.{length}
@@ -58,17 +58,25 @@ same-length-2 c = search needs
 
 returns-2 : tie.Need-returns-2
 returns-2 c =
-    let a = c .before .before .before .before .before .before .before .before .before .before .before .before .before .before .before .before .before .before .before .before .before .before .before .before .before .args in
+    let at-put-up = c .before .before .before .before in
+    let at-put-up-2 = at-put-up .before .before in
+    let at-put-line = at-put-up-2 .before .before .before .before .before in
+    let at-decide = at-put-line .before .before .before .before .before in
+    let at-hear-run = at-decide .before in
+    let at-if1 = at-hear-run .before .before .before in
+    let at-lacks-room = at-if1 .before in
+    let start = at-lacks-room .before .before .before .before in
+    let a = start .args in
     let line = now (a .line) in
     let up = now (a .up) in
-    let z = sizes (a .self) _ (c .before .before .before .before .before .before .before .before .before .before .before .before .before .before .before .before .before .before .before .before .before .before .before .before .before .good .0) in
-    let r = sym (c .before .before .before .before .before .before .before .before .before .before .before .before .before .before .before .before .before .before .before .before .before .lacks-room .ensures) ∙ c .before .before .before .before .before .before .before .before .before .before .before .before .before .before .before .before .before .before .before .before .if1 .left in
+    let z = sizes (a .self) _ (start .good .0) in
+    let r = sym (at-lacks-room .lacks-room .ensures) ∙ at-if1 .if1 .left in
     let w = has-room (length line) (length up) r in
-    let h = c .before .before .before .before .before .before .before .before .before .before .before .before .before .before .before .before .before .hear-run .ensures (z .0) .all in
-    let d = c .before .before .before .before .before .before .before .before .before .before .before .before .before .before .before .before .decide .ensures in
-    let l = line-in (c .before .before .before .before .before .before .before .before .before .before .before .put-line .ensures) (z .1) (w .0) in
-    let g = c .before .before .before .before .before .before .put-up-arg2 .given .0 in
-    let p = c .before .before .before .before .put-up .ensures in
+    let h = at-hear-run .hear-run .ensures (z .0) .all in
+    let d = at-decide .decide .ensures in
+    let l = line-in (at-put-line .put-line .ensures) (z .1) (w .0) in
+    let g = at-put-up-2 .put-up-arg2 .given .0 in
+    let p = at-put-up .put-up .ensures in
     let u = up-in p g (w .1) in
     let n = up-counts p g (w .1) (ap (λ (f : Far). f .body) h) (hear-length (unheard (a .self .core .hearing) (a .self .body)) (now (a .bytes)) ∙ z .0) in
     let t = sym (runs base (a .self) (now (a .bytes))) in

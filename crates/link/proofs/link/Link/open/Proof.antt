@@ -1,4 +1,4 @@
--- `link::state::Link::open` meets its contract.
+-- `link::link::Link::open` meets its contract.
 -- Assumes nothing.
 use Rattle.link.specs.Link.{noBody, noFrame}
 use borrow.Author.Needs.{needs}

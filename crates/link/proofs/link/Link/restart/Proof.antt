@@ -1,4 +1,4 @@
--- `link::state::Link::restart` meets its contract.
+-- `link::link::Link::restart` meets its contract.
 -- Assumes nothing.
 use mathlib.Core.Path.{sym, _∙_}
 use lib.ListN.{length}
@@ -43,10 +43,14 @@ same-length c = search needs
 returns-2 : tie.Need-returns-2
 unfolding restartOut
 returns-2 c =
-    let a = c .before .before .before .before .before .before .before .before .before .before .before .args in
+    let at-restarting = c .before .before .before .before in
+    let at-if1 = at-restarting .before .before .before in
+    let at-lacks-room = at-if1 .before in
+    let start = at-lacks-room .before .before .before in
+    let a = start .args in
     let line = now (a .line) in
     let up = now (a .up) in
-    accept Passes (restartOut (a .self)) (a .self) line up (roomy line up Passes (sym (c .before .before .before .before .before .before .before .before .lacks-room .ensures) ∙ c .before .before .before .before .before .before .before .if1 .left)) (simp (c .before .before .before .before .restarting .ensures, c .before .before .before .before .before .«open» .ensures)) (c .before .before .emit .ensures)
+    accept Passes (restartOut (a .self)) (a .self) line up (roomy line up Passes (sym (at-lacks-room .lacks-room .ensures) ∙ at-if1 .if1 .left)) (simp (at-restarting .restarting .ensures, at-restarting .before .«open» .ensures)) (c .before .before .emit .ensures)
 
 pub restart-spec : {M : Type 1} → statement M
 restart-spec =

@@ -1,4 +1,4 @@
--- `link::state::Link::send` meets its contract.
+-- `link::link::Link::send` meets its contract.
 -- Assumes nothing.
 use mathlib.Core.Path.{refl, sym, _∙_}
 use lib.ListN.{length}
@@ -37,22 +37,27 @@ open-out-requires c κs =
 
 returns : tie.Need-returns
 returns c =
-    let a = c .before .before .before .before .before .before .before .before .before .args in
+    let at-send-checks = c .before .before .before .before in
+    let start = at-send-checks .before .before .before .before .before in
+    let a = start .args in
     let line = now (a .line) in
     let up = now (a .up) in
     let ps = now (a .parameters) in
-    refuse (sendOwn (a .self .core .job) (a .kind) (length ps)) (openOut (a .self) Plain (frameOf (a .kind) (a .command) ps)) (a .self) line up (sym (c .before .before .before .before .send-checks .ensures) ∙ c .before .before .checked .given .1) (c .refused .ensures)
+    refuse (sendOwn (a .self .core .job) (a .kind) (length ps)) (openOut (a .self) Plain (frameOf (a .kind) (a .command) ps)) (a .self) line up (sym (at-send-checks .send-checks .ensures) ∙ c .before .before .checked .given .1) (c .refused .ensures)
 
 same-length : tie.Need-same-length
 same-length c = search needs
 
 returns-2 : tie.Need-returns-2
 returns-2 c =
-    let a = c .before .before .before .before .before .before .before .before .before .before .before .args in
+    let at-enum-told = c .before .before .before .before in
+    let at-send-checks = at-enum-told .before .before in
+    let start = at-send-checks .before .before .before .before .before in
+    let a = start .args in
     let line = now (a .line) in
     let up = now (a .up) in
     let ps = now (a .parameters) in
-    accept (sendOwn (a .self .core .job) (a .kind) (length ps)) (openOut (a .self) Plain (frameOf (a .kind) (a .command) ps)) (a .self) line up (sym (c .before .before .before .before .before .before .send-checks .ensures) ∙ c .before .before .before .before .enum-told .given .1) refl (c .before .before .open-out .ensures)
+    accept (sendOwn (a .self .core .job) (a .kind) (length ps)) (openOut (a .self) Plain (frameOf (a .kind) (a .command) ps)) (a .self) line up (sym (at-send-checks .send-checks .ensures) ∙ at-enum-told .enum-told .given .1) refl (c .before .before .open-out .ensures)
 
 pub send-spec : {M : Type 1} → statement M
 send-spec =

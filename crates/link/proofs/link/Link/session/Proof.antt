@@ -1,4 +1,4 @@
--- `link::state::Link::session` meets its contract.
+-- `link::link::Link::session` meets its contract.
 -- Assumes nothing.
 use mathlib.Core.Path.{refl, sym, _∙_}
 use native.Mathlib.Omega.{arith}
@@ -37,22 +37,27 @@ open-out-requires c κs =
 
 returns : tie.Need-returns
 returns c =
-    let a = c .before .before .before .before .before .before .before .before .before .args in
+    let at-session-checks = c .before .before .before .before in
+    let start = at-session-checks .before .before .before .before .before in
+    let a = start .args in
     let line = now (a .line) in
     let up = now (a .up) in
     let ps = now (a .parameters) in
-    refuse (sessionOwn (a .self .core .job) (length ps)) (openOut (a .self) (Asks (a .command)) (frameOf 0 (a .command) ps)) (a .self) line up (sym (c .before .before .before .before .session-checks .ensures) ∙ c .before .before .checked .given .1) (c .refused .ensures)
+    refuse (sessionOwn (a .self .core .job) (length ps)) (openOut (a .self) (Asks (a .command)) (frameOf 0 (a .command) ps)) (a .self) line up (sym (at-session-checks .session-checks .ensures) ∙ c .before .before .checked .given .1) (c .refused .ensures)
 
 same-length : tie.Need-same-length
 same-length c = search needs
 
 returns-2 : tie.Need-returns-2
 returns-2 c =
-    let a = c .before .before .before .before .before .before .before .before .before .before .before .args in
+    let at-enum-told = c .before .before .before .before in
+    let at-session-checks = at-enum-told .before .before in
+    let start = at-session-checks .before .before .before .before .before in
+    let a = start .args in
     let line = now (a .line) in
     let up = now (a .up) in
     let ps = now (a .parameters) in
-    accept (sessionOwn (a .self .core .job) (length ps)) (openOut (a .self) (Asks (a .command)) (frameOf 0 (a .command) ps)) (a .self) line up (sym (c .before .before .before .before .before .before .session-checks .ensures) ∙ c .before .before .before .before .enum-told .given .1) refl (c .before .before .open-out .ensures)
+    accept (sessionOwn (a .self .core .job) (length ps)) (openOut (a .self) (Asks (a .command)) (frameOf 0 (a .command) ps)) (a .self) line up (sym (at-session-checks .session-checks .ensures) ∙ at-enum-told .enum-told .given .1) refl (c .before .before .open-out .ensures)
 
 pub session-spec : {M : Type 1} → statement M
 session-spec =

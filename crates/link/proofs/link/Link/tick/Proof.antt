@@ -1,4 +1,4 @@
--- `link::state::Link::tick` meets its contract.
+-- `link::link::Link::tick` meets its contract.
 -- Assumes nothing.
 use mathlib.Core.Path.{sym, _∙_}
 use lib.ListN.{length}
@@ -45,10 +45,15 @@ same-length c = search needs
 returns-2 : tie.Need-returns-2
 unfolding tickOut
 returns-2 c =
-    let a = c .before .before .before .before .before .before .before .before .before .before .before .args in
+    let at-decide-tick = c .before .before .before .before in
+    let at-hear-tick = at-decide-tick .before in
+    let at-if1 = at-hear-tick .before .before in
+    let at-lacks-room = at-if1 .before in
+    let start = at-lacks-room .before .before .before in
+    let a = start .args in
     let line = now (a .line) in
     let up = now (a .up) in
-    accept Passes (tickOut base (a .self)) (a .self) line up (roomy line up Passes (sym (c .before .before .before .before .before .before .before .before .lacks-room .ensures) ∙ c .before .before .before .before .before .before .before .if1 .left)) (simp (c .before .before .before .before .decide-tick .ensures, c .before .before .before .before .before .hear-tick .ensures)) (c .before .before .emit .ensures)
+    accept Passes (tickOut base (a .self)) (a .self) line up (roomy line up Passes (sym (at-lacks-room .lacks-room .ensures) ∙ at-if1 .if1 .left)) (simp (at-decide-tick .decide-tick .ensures, at-hear-tick .hear-tick .ensures)) (c .before .before .emit .ensures)
 
 pub tick-spec : {M : Type 1} → statement M
 tick-spec =
