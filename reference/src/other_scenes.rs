@@ -4,7 +4,7 @@
 use crate::frame::{ACK, CAN, NAK, RES, START};
 use crate::scribe::{whole, Scribe};
 
-/// Lines out of form; a few of them only look so.
+/// Malformed lines; a few of them only look malformed.
 #[rustfmt::skip]
 const MALFORMED: &[&str] = &[
     "tock", "TICK", "Tick", "tick 1", "tick ", " tick", "  ", " ", "tick\r", "\r", "tick\t",

@@ -18,7 +18,7 @@ pub struct Tale {
     pub taken: usize,
 }
 
-// One number more: three times the sum and the number, modulo 2^64. The order of the numbers counts.
+// One number more: three times the sum and the number, modulo 2^64. The order of the numbers matters.
 pub fn mix(sum: u64, number: u64) -> u64
     ensures { λ r. ⌜ r ≡ spec.mix sum number ⌝ }
 {

@@ -60,7 +60,7 @@ fn bytes_fed(start: Link, input: &[u8], line: &mut [u8], up: &mut [u8]) -> Reach
     }
 }
 
-// A fresh link that is fed so.
+// The same from a fresh link.
 #[no_mangle]
 pub extern "C" fn sarnaqel_bytes(input: &[u8], line: &mut [u8], up: &mut [u8]) -> u64
     ensures { λ r. ⌜ FedTo (bytesFed (checks (now (line .entry)) (now (up .entry)) Passes) (opened (now (line .entry)) (now (up .entry))) (now (input .entry))) r (now (line .exit)) (now (up .exit)) ⌝ }
@@ -109,7 +109,7 @@ fn ticks_fed(start: Link, n: u64, line: &mut [u8], up: &mut [u8]) -> u64
     sum
 }
 
-// So many ticks on a link that was prepared so.
+// So many ticks on a link prepared in this way.
 #[no_mangle]
 pub extern "C" fn sarnaqel_ticks(
     asks: bool,

@@ -38,7 +38,7 @@ pub enum Hearing {
 }
 
 impl Hearing {
-    // A frame may take so long from its first byte.
+    // How long a frame may take, from its first byte.
     pub const FRAME_TIME: Millis = Millis(1500);
 }
 
@@ -112,7 +112,7 @@ pub fn hunted(b: u8) -> Heard
     }
 }
 
-// Length: below 3 it is bad, else that many body bytes less one follow.
+// Length: below 3 it is bad, else Length - 1 body bytes follow.
 pub fn measured(clock: u16, b: u8) -> Heard
     ensures { λ r. ⌜ r ≡ spec.measured clock b ⌝ }
 {

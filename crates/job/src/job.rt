@@ -40,9 +40,9 @@ pub enum Job {
 }
 
 impl Job {
-    // A copy is lost when it has waited so long for its ACK.
+    // How long a copy waits for its ACK before it is lost.
     pub const ACK_WAIT: Millis = Millis(1600);
-    // A session waits so long for its response.
+    // How long a session waits for its response.
     pub const RESPONSE_WAIT: Millis = Millis(5000);
     // The back-offs after copies 1, 2 and 3.
     pub const BACK_OFF_1: Millis = Millis(100);

@@ -15,7 +15,7 @@ ghost use Prim.Native.Nat.{_+_};
 ghost use Rattle.rules.specs.Rules.{base};
 ghost use Rattle.job.specs.Ticks as spec;
 
-// How long a copy of so many bytes waits for its ACK: each as long.
+// How long a copy of so many bytes waits for its ACK: the same time for every length.
 fn ack_wait(_size: u16) -> Millis
     ensures { λ r. ⌜ r .0 ≡ base .wait «_size» ⌝ }
 {

@@ -7,7 +7,7 @@ ghost use Rattle.linecount.specs.Reads.{Within};
 ghost use Prim.Native.Nat.{_≤_};
 ghost use lib.ListN.{length};
 
-// At most as many bytes are counted.
+// The most bytes that are counted.
 const MOST: usize = 16777216;
 
 // What one read came to. An error is never the end of the input.
@@ -85,7 +85,7 @@ fn print(tally: Tally, cut: u64) {
     print_line(b"cut=", cut);
 }
 
-// Only a byte behind the most shows that input remained unread.
+// Only a byte behind the last that is counted shows that input remained unread.
 fn print_most(buf: &mut [u8], tally: Tally) {
     let got = read_some(buf, 1);
     match got {

@@ -28,11 +28,11 @@ pub struct Timings {
 }
 
 impl Link {
-    // A frame may take so long from its first byte (section 4).
+    // How long a frame may take, from its first byte (section 4).
     pub const FRAME_TIME: Millis = Hearing::FRAME_TIME;
-    // A copy is lost when it has waited so long for its ACK (section 5).
+    // How long a copy waits for its ACK before it is lost (section 5).
     pub const ACK_WAIT: Millis = Job::ACK_WAIT;
-    // A session waits so long for its response (section 6).
+    // How long a session waits for its response (section 6).
     pub const RESPONSE_WAIT: Millis = Job::RESPONSE_WAIT;
     // The back-offs after copies 1, 2 and 3 (section 5).
     pub const BACK_OFF_1: Millis = Job::BACK_OFF_1;

@@ -121,7 +121,7 @@ fn counts_of(outcome: LineAnswer) -> ByteCounts {
     }
 }
 
-// The ticks accepted with this call. No play lasts until their count goes round.
+// The ticks accepted with this call. No script is long enough for their count to wrap.
 fn ticks_with(verb: LinkVerb, outcome: LineAnswer, ticks: u64) -> u64 {
     if !is_tick(verb) {
         return ticks;
@@ -140,7 +140,7 @@ fn is_spill(counts: ByteCounts, line: &[u8], up: &[u8]) -> bool {
     is_spilled(up, counts.up)
 }
 
-// Whether a call has a line of output: of many ticks only one that has something to tell.
+// Whether a call has a line of output: of many ticks, only those that have something to tell.
 fn is_told(verb: LinkVerb, outcome: LineAnswer, spilled: bool) -> bool {
     let LinkVerb::Ticks = verb else {
         return true;
@@ -196,7 +196,7 @@ fn put_line(
     put_end(spilled, out, c)
 }
 
-// The call's line of output, where it has one. The lent buffers are as before the call again.
+// The call's line of output, where it has one. The lent buffers are again as they were before the call.
 fn tell(
     verb: LinkVerb,
     ticks: u64,

@@ -3,7 +3,7 @@ mod link_calls;
 mod play;
 mod words;
 
-// All the memory there is stands here, and is lent from here.
+// All memory stands here, and is lent from here.
 fn main() {
     let mut script = io::large_buffer();
     let mut text = io::buffer();

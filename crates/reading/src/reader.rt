@@ -16,7 +16,7 @@ pub enum Reading {
     Parts { kind: u8, command: u8, count: u8 },
 }
 
-// What is left to be looked at in a frame that is as long as its Length says. It is given numbers alone, so that it costs `read` no call.
+// What is left to check in a frame that is as long as its Length says. It takes numbers alone, so that it costs `read` no call.
 fn parts_of(kind: u8, command: u8, len: u8, sum: u8, last: u8) -> Reading
     requires { ⌜ frames.MIN_LENGTH ≤ len ⌝ }
     ensures { λ r. ⌜ r ≡ spec.partsOf kind command len sum last ⌝ }

@@ -1,5 +1,5 @@
-// Reception (document 01, section 4): what is said of an event, answered and handed up, and the run of bad sums. Which event a
-// byte or a tick is, is the crate `hearing`.
+// Reception (document 01, section 4): what is said of an event, answered and handed up, and the run of bad sums. The crate
+// `hearing` says which event a byte or a tick is.
 mod said;
 mod sums;
 

@@ -1,1 +1,2 @@
-// No code: the definitions of histories of calls, and theorems over them (demands 2 and 3 of document 01).
+// No code: the rules, what document 01 fixes as numbers and later requests vary (section 5). The definitions of the machine take
+// them as a parameter.

@@ -62,7 +62,7 @@ fn is_sign(b: u8) -> bool
     false
 }
 
-// Where the noise ends that begins at `from`.
+// Where the noise that begins at `from` ends.
 fn noise(bytes: &[u8], from: usize) -> usize
     requires { ⌜ from ≤ length (now bytes) ⌝ }
     ensures { λ r. ⌜ Noise (now (bytes .entry)) from r ⌝ }
@@ -92,7 +92,7 @@ fn picked(at: u8, place: u8, s: &[u8], old: u8) -> u8
     old
 }
 
-// How many of n bytes have room in the body from `at`: all of them, but in links that no call makes.
+// How many of n bytes have room in the body from `at`: all of them, except in links that no call makes.
 fn fit(n: usize, at: u8) -> usize
     ensures { λ r. ⌜ r ≡ min n (frames.MAX_BODY - at) ⌝ }
 {
@@ -215,7 +215,7 @@ fn onward(r: Reach, bytes: &[u8], body: &mut [u8; MAX_BODY]) -> Reach
     }
 }
 
-// Whether a byte that was heard so has news: a single byte or an end.
+// Whether a byte heard as this event has news: it is a single byte, or ends a frame.
 fn has_news(event: Event) -> bool
     ensures { λ r. ⌜ r ≡ spec.hasNews event ⌝ }
 {

@@ -118,7 +118,7 @@ fn put_nodes(
     put_front(list, n, out, c)
 }
 
-// The line of a node list; the lent list is as before the call again.
+// The line of a node list; the lent list is again as it was before the call.
 fn nodes(body: &[u8], list: &mut [u8], out: &mut [u8], waiting: usize) -> usize {
     match nodes::read_nodes(body, list) {
         NodeList::Refused(refusal) => put_refusal(b"nodes", refusal, list, out, waiting),
@@ -156,7 +156,7 @@ fn old_timeouts(body: &[u8], out: &mut [u8], waiting: usize) -> usize {
     }
 }
 
-// The size of the buffer that a call is lent: what its order says where it says one.
+// The size of the buffer that a call is lent: the one that its order names, if it names one.
 fn room_of(verb: BodyVerb, size: u32) -> usize {
     match verb {
         BodyVerb::Nodes => 232,
@@ -166,7 +166,7 @@ fn room_of(verb: BodyVerb, size: u32) -> usize {
     }
 }
 
-// The call on a body that an order asks for. The lent buffer is lent as far as the call is to have it.
+// The call on a body that an order asks for. The call is lent that much of the buffer.
 pub fn on_body(
     verb: BodyVerb,
     numbers: [u32; 3],

@@ -21,7 +21,7 @@ pub fn put_no(name: &[u8], refusal: Refusal, out: &mut [u8], waiting: usize) -> 
     put_end(false, out, b)
 }
 
-// The line of a call that was refused; the lent buffer is as before it again.
+// The line of a call that was refused; the lent buffer is again as it was before.
 pub fn put_refusal(
     name: &[u8],
     refusal: Refusal,
@@ -36,7 +36,7 @@ pub fn put_refusal(
     put_end(spilled, out, b)
 }
 
-// The line of a call that writes a frame; the lent buffer is as before it again.
+// The line of a call that writes a frame; the lent buffer is again as it was before.
 pub fn put_built(
     name: &[u8],
     answer: Built,
@@ -83,7 +83,7 @@ fn read(bytes: &[u8], out: &mut [u8], waiting: usize) -> usize {
     }
 }
 
-// The size of the buffer that a call is lent: what its order says where it says one.
+// The size of the buffer that a call is lent: the one that its order names, if it names one.
 fn room_of(verb: FrameVerb, size: usize) -> usize {
     match verb {
         FrameVerb::Build => 257,
@@ -92,7 +92,7 @@ fn room_of(verb: FrameVerb, size: usize) -> usize {
     }
 }
 
-// The call on a frame that an order asks for. The lent buffer is lent as far as the call is to have it.
+// The call on a frame that an order asks for. The call is lent that much of the buffer.
 pub fn on_frame(
     verb: FrameVerb,
     size: usize,

@@ -16,7 +16,7 @@ pub fn fill(lent: &mut [u8]) {
     }
 }
 
-// Whether a byte beyond the first n is not the pattern's. No early end, so that many bytes are looked at together.
+// Whether a byte beyond the first n is not the pattern's. It does not stop early, so that many bytes are compared at once.
 pub fn is_spilled(lent: &[u8], n: usize) -> bool {
     let mut differ: u8 = 0;
     let mut i = n;
@@ -38,7 +38,7 @@ pub fn restore(lent: &mut [u8], n: usize) {
     }
 }
 
-// The size of a part to lend, which a buffer has room for.
+// The size of the part of a buffer to lend: at most all of it.
 pub fn within(n: usize, lent: &[u8]) -> usize
     ensures { λ r. ⌜ r ≤ length (now (lent .entry)) ⌝ }
 {

@@ -5,7 +5,7 @@ use crate::verb::verb_of;
 ghost use Prim.Native.Nat.{_+_, _≤_};
 ghost use lib.ListN.{length};
 
-// A lent buffer has at most as many bytes.
+// The most bytes that a lent buffer has.
 const MOST_SIZE: u32 = 600;
 // A number has at most nine digits.
 const MOST_NUMBER: u32 = 999999999;
@@ -103,7 +103,7 @@ fn number_at(text: &[u8], at: usize) -> Number {
     number_of(&rest[0..n], at + 1 + n)
 }
 
-// With the next number of the line, which is at most so large.
+// With the next number of the line; one above `most` is wrong.
 fn with_next(numbers: Numbers, text: &[u8], most: u32) -> Numbers {
     let mut wrong = numbers;
     wrong.is_wrong = true;

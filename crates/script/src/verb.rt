@@ -193,7 +193,7 @@ pub fn shape_of(verb: Verb) -> Shape {
     }
 }
 
-// A call's name. One of many ticks is a tick.
+// A call's name. Each of many ticks is named as one.
 pub fn put_name(verb: LinkVerb, out: &mut [u8], waiting: usize) -> usize {
     let place = match verb {
         LinkVerb::Send => 0,

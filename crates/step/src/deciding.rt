@@ -133,7 +133,7 @@ pub fn decide(job: Job, bad: u8, size: u16, event: Event) -> Outcome
     decide_idle(bad, event)
 }
 
-// An act with which reception has this much to say, and no byte of its own.
+// An act beside which reception says this, and puts out no byte.
 fn acted(reception: Reception, bad: u8, act: Act) -> Outcome
     ensures { λ r. ⌜ r ≡ spec.acted reception bad act ⌝ }
 {
@@ -149,7 +149,7 @@ fn acted(reception: Reception, bad: u8, act: Act) -> Outcome
     decided(said, sums, act)
 }
 
-// A tick, by what it was to hearing. (Of hearing a tick, no event of a byte comes.)
+// A tick, by what it was to hearing. (Hearing a tick gives no event of a byte.)
 pub fn decide_tick(job: Job, bad: u8, size: u16, event: Event) -> Outcome
     ensures { λ r. ⌜ r ≡ spec.decide base size event job bad ⌝ }
 {

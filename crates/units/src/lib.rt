@@ -28,7 +28,7 @@ pub fn ticks_of(time: Millis) -> Converted
     Converted::Ticks(Ticks10((ms / 10) as u8))
 }
 
-// And back, which always can be.
+// And back, which is never refused.
 pub fn millis_of(time: Ticks10) -> Millis
     ensures { λ r. ⌜ r ≡ millisOf time ⌝ }
 {
