@@ -9,16 +9,16 @@ use lib.ListN.{length}
 use borrow.Author.Tests.{ltb-false}
 use Rattle.masks.specs.Response.{isResponse}
 use Rattle.masks.specs.Mask.{isMarked}
-use Rattle.masks.proofs.Layouts.{both, neither}
+use Rattle.masks.proofs.Layouts.{both, unmet}
 use Rattle.capabilities.specs.Capabilities.{isCapabilities, functionMask, OfCapabilities, capabilitiesOf, readCapabilities}
 use Rattle.capabilities.specs.declared.Capabilities.the-variants.{Answer}
 
 pub of-capabilities : (body : List ℕ) → isCapabilities body ≡ true → OfCapabilities body
 of-capabilities body e =
     let a = both (isResponse body 7) e .1 in
-    let b = neither (ltb (length body) 10) a in
-    let c = neither (ltb 42 (length body)) (b .1) in
-    let d = neither (isMarked (functionMask body) 256) (c .1) in
+    let b = unmet (ltb (length body) 10) a in
+    let c = unmet (ltb 42 (length body)) (b .1) in
+    let d = unmet (isMarked (functionMask body) 256) (c .1) in
     record { least = ltb-false (length body) 10 (b .0); most = ltb-false 42 (length body) (c .0); clear = d .0 }
 
 -- what a body of its layout gives

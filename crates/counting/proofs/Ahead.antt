@@ -12,7 +12,8 @@ use lib.ListN.{length, take, drop, getD, take-append-drop, length-drop}
 use lib.Seq.{drop-cons, drop-drop, length-take-le}
 use Rattle.refusals.specs.Pick.{pick}
 use Rattle.frame.specs.Bytes.{fold}
-use Rattle.hearing.specs.Hearing.{heard, begun, more, ended}
+use Rattle.hearing.specs.Hearing.{heard, begun, more, ended, walked}
+use Rattle.hearing.proofs.Walks.{walked-size, walked-at, walked-sum, walked-kind}
 use Rattle.hearing.specs.declared.hearing.Partial.{Partial}
 use Rattle.hearing.specs.declared.hearing.Hearing.{Hearing}
 use Rattle.hearing.specs.declared.hearing.Hearing.the-variants.{Hunting, Head, Body}
@@ -59,10 +60,6 @@ short-bytes k size rest h = simp (lt-ltb size 3 h)
 
 -- A run of body bytes.
 
-unfoldable walked : Partial → List ℕ → Partial
-walked p [] = p
-walked p (b ∷ bs) = walked (more p b) bs
-
 walk-byte : (p : Partial) (k : Counts) (b : ℕ) → p .at < p .size → countByte b (inside p k) ≡ inside (more p b) k
 walk-byte p k b h = simp (lt-ltb (p .at) (p .size) h)
 
@@ -72,27 +69,6 @@ unfolding count walked
 walk p k [] rest h = refl
 walk p k (b ∷ bs) rest h =
     ap (λ (t : Tally). count t (bs ++ rest)) (walk-byte p k b (omega arith)) ∙ walk (more p b) k bs rest (omega arith)
-
-walked-size : (p : Partial) (bs : List ℕ) → walked p bs .size ≡ p .size
-unfolding walked
-walked-size p [] = refl
-walked-size p (b ∷ bs) = walked-size (more p b) bs
-
-walked-at : (p : Partial) (bs : List ℕ) → walked p bs .at ≡ p .at + length bs
-unfolding walked
-walked-at p [] = omega arith
-walked-at p (b ∷ bs) = omega (arith, walked-at (more p b) bs)
-
-walked-sum : (p : Partial) (bs : List ℕ) → walked p bs .sum ≡ fold (p .sum) bs
-unfolding walked fold
-walked-sum p [] = refl
-walked-sum p (b ∷ bs) = walked-sum (more p b) bs
-
--- behind the Type no byte changes it
-walked-kind : (p : Partial) (bs : List ℕ) → 0 < p .at → walked p bs .kind ≡ p .kind
-unfolding walked
-walked-kind p [] h = refl
-walked-kind p (b ∷ bs) h = walked-kind (more p b) bs (omega arith) ∙ simp (ne-eqb (p .at) 0 (λ e. omega (arith, e)))
 
 -- The checksum behind the last body byte.
 

@@ -23,13 +23,10 @@ use Rattle.link.specs.declared.calls.Ran.{Ran}
 use Rattle.exports.specs.Numbers.{mix, runNumber, runTaken}
 use Rattle.exports.specs.Feeding.{Fed, at, part, ranBy, runFed, runsFed}
 use Rattle.exports.proofs.Feeds.{same-checks}
+use Rattle.refusals.proofs.Picks.{pick-ok}
 
 abbrev pub fed : Link → List ℕ → List ℕ → ℕ → Fed
 fed = at
-
-pick-ok : {A : Type 0} (P : A → Type 0) (x : Bool) (a b : A) → P a → P b → P (pick x a b)
-pick-ok P true a b p q = p
-pick-ok P false a b p q = q
 
 from-most : (o : Out) (n : ℕ) (bs : List ℕ) → runFrom base o n bs .taken ≤ n + length bs
 unfolding runFrom

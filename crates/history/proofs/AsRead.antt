@@ -42,7 +42,7 @@ use Rattle.history.specs.Perform.{What, byte, bytes, tick, send, session
 use Rattle.history.specs.History.{next, run, after, oneTick, oneRestart, accepted, ticksIn, restartsIn}
 use Rattle.history.specs.Received.{feed, takenBy, ifTaken, received}
 use Rattle.history.specs.Whole.{Whole, short, full, fromFirst, clockIn, ComesWhole, dueCopy, Ending, EndsBy, AsRead}
-use Rattle.history.proofs.Reception.{pick-by, pick-ok}
+use Rattle.refusals.proofs.Picks.{pick-by, pick-ok}
 use Rattle.history.proofs.Histories.{accepted-is}
 use Rattle.hearing.proofs.Theorems.{keep-length}
 use Rattle.history.proofs.Ranges.{body-254}

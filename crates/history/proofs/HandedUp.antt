@@ -29,7 +29,7 @@ use Rattle.history.specs.History.{next, run, after}
 use Rattle.history.specs.Ranges.{All, Comes, ComeAll, IsByte}
 use Rattle.history.specs.Received.{feed, takenBy, ifTaken, received}
 use Rattle.history.specs.HandedUp.{FrameUp, HandedUp, nothing, frame}
-use Rattle.history.proofs.Reception.{pick-by, pick-ok}
+use Rattle.refusals.proofs.Picks.{pick-by, pick-ok}
 use Rattle.hearing.proofs.Theorems.{keep-length}
 use Rattle.history.proofs.Bodies.{partialOf, begun-is, more-is, kept-more}
 use Rattle.history.proofs.Runs.{run-empty, run-bytes, taken-is, run-feeds}

@@ -32,7 +32,8 @@ use Rattle.report.specs.declared.Session.the-variants as session
 use Rattle.report.specs.declared.Session.{Session}
 use Rattle.history.specs.Watch.{Verdict, copiesIn, isFailure, isOwn, Says, none, says, both, together, beside, sendVerdict, sessionVerdict, verdictIn}
 use Rattle.history.specs.Bound.{Fits, tail, extra}
-use Rattle.history.proofs.Reception.{pick-by, room, Within, WithinIf, Stays, Passes, Aborts, Alones, Tells, ticksAt}
+use Rattle.history.proofs.Reception.{room, Within, WithinIf, Stays, Passes, Aborts, Alones, Tells, ticksAt}
+use Rattle.refusals.proofs.Picks.{pick-by}
 
 tail-law : (W : ℕ) (g : ℕ → ℕ) (n : ℕ) → 0 < n → n < 4 → tail W g n ≡ g n + 1500 + W + tail W g (suc n)
 tail-law W g zero a b = absurd (not-suc-le-zero a)

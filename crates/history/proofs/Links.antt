@@ -36,35 +36,18 @@ use Rattle.reception.specs.declared.said.Reply.the-variants as reply
 use Rattle.reception.specs.declared.said.Said.{Said}
 use Rattle.reception.specs.declared.sums.Sums.{Sums}
 use Rattle.link.specs.declared.link.Link.{Link}
+use Rattle.link.proofs.Hears.{single-news, end-news}
 use Rattle.history.specs.Cut.{ack, nak}
 use Rattle.history.specs.Watch.{Verdict, copiesIn, isFailure, isOwn, Says, none, says, both, verdictIn, verdictOf}
 use Rattle.history.specs.Bound.{Fits}
 use Rattle.history.proofs.Mix.{Mix, end as finish, one, copy, mix-append}
-use Rattle.history.proofs.Reception.{pick-by, pick-ok, InTime, Steps, ticksAt, byte-steps, tick-steps}
+use Rattle.history.proofs.Reception.{InTime, Steps, ticksAt, byte-steps, tick-steps}
+use Rattle.refusals.proofs.Picks.{neither, pick-by, pick-ok}
 use Rattle.history.proofs.Job.{Good, left, ones, Claim, no-verdict, act-ok}
 use Rattle.reception.specs.Said.{replyBytes, saidEnd, saidOn}
 use Rattle.reception.specs.Sums.{sumsOn}
 
 -- ---- a byte whose report is no more than "nothing" or "skipped" changes the job in nothing, puts nothing out and hands nothing up
-single-news : (R : Rules) (s : Single) (j : Job) → newsSending ((onSingle R s j) .sending) ≡ true
-single-news R s Idle = refl
-single-news R s (Due a n) = refl
-single-news R s (BackingOff a n b) = refl
-single-news R s (Awaiting c n e) = refl
-single-news R Ack (Waiting Plain n e) = refl
-single-news R Ack (Waiting (Asks c) n e) = refl
-single-news R Nak (Waiting a n e) =
-    pick-ok (λ (x : Act). newsSending (x .sending) ≡ true) (ltb n 4) _ _ (pick-ok (λ (x : Act). newsSending (x .sending) ≡ true) (eqb (R .back told n) 0) _ _ refl refl) refl
-single-news R Can (Waiting a n e) =
-    pick-ok (λ (x : Act). newsSending (x .sending) ≡ true) (ltb n 4) _ _ (pick-ok (λ (x : Act). newsSending (x .sending) ≡ true) (eqb (R .back told n) 0) _ _ refl refl) refl
-
-end-news : (e : End) (j : Job) → newsReception ((saidEnd e (awaitedBy j)) .reception) ≡ true
-end-news end.BadLength j = refl
-end-news end.BadSum j = refl
-end-news end.Reserved j = refl
-end-news (end.Request size) j = refl
-end-news (end.Response size command) j = pick-ok (λ (x : Reception). newsReception x ≡ true) (awaits command j) _ _ refl refl
-
 pub record Calm (R : Rules) (size : ℕ) (e : Event) (j : Job) : Type 0 where
   pub job : onEvent R size e j ≡ still j
   pub silent : (saidOn e (awaitedBy j)) .reply ≡ reply.Silent
@@ -79,10 +62,6 @@ calm R size (Ended e) j t p q = absurd (false≢true (sym p ∙ end-news e j))
 calm R size TickHunting j t p q = absurd (omega arith)
 calm R size TickInside j t p q = absurd (omega arith)
 calm R size Aborted j t p q = absurd (omega arith)
-
-neither : (x y : Bool) → pick x true y ≡ false → (x ≡ false) × (y ≡ false)
-neither true y e = absurd (false≢true (sym e))
-neither false y e = (refl, e)
 
 pub calm-byte : (R : Rules) (l : Link) (b : ℕ) (r : Heard) → ticksAt (r .event) ≡ 0 → news (byteBy R l b r) ≡ false → Calm R (l .core .size) (r .event) (l .core .job)
 calm-byte R l b r t e =

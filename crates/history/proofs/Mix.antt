@@ -12,7 +12,7 @@ use lib.Seq.{take-at, drop-at}
 use Rattle.refusals.specs.Pick.{pick}
 use Rattle.history.specs.Cut.{Piece, single, whole, cutInto, cut, framesOf, frames, singlesOf, singles, IsAnswer, ack, nak, joined}
 use Rattle.history.specs.Ranges.{All}
-use Rattle.history.proofs.Reception.{pick-by}
+use Rattle.refusals.proofs.Picks.{pick-by}
 
 -- n copies of f among single bytes that are answers
 pub data Mix (f : List ℕ) : ℕ → List ℕ → Type 0 where

@@ -41,7 +41,7 @@ use Rattle.history.specs.Bound.{Fits}
 use Rattle.history.specs.Watch.{copiesIn, Says, none, says, both, sendVerdict, sessionVerdict, verdictIn, verdictOf, Watch, going, gone, ended, add, onward, watchTaken, watchDone, watch, outsTaken, outsDone, outs, verdictCount, verdictsOf, abandonsIn, abandonsOf, linesOf, verdictsBy, abandonsBy}
 use Rattle.history.specs.Demand3.{Spent}
 use Rattle.history.proofs.Mix.{Mix, end as finish, one, mix-append, IsFrame, mix-frames}
-use Rattle.history.proofs.Reception.{pick-ok}
+use Rattle.refusals.proofs.Picks.{pick-ok}
 use Rattle.history.proofs.Job.{Good, due, waits, backs, awaiting, good-few, no-verdict}
 use Rattle.history.proofs.Links.{Sends, Outcome, reply-mix, byte-gave, tick-gave, run-gave}
 use Rattle.history.proofs.Histories.{send-passed, session-passed}

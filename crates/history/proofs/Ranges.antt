@@ -41,7 +41,8 @@ use Rattle.history.specs.History.{after}
 use Rattle.history.specs.Watch.{Says, none, says, both, verdictOf}
 use Rattle.history.specs.Bound.{Fits}
 use Rattle.history.specs.Ranges.{ComeAll, IsByte, HearingIn, IsInside, JobIn, InRange}
-use Rattle.history.proofs.Reception.{pick-by, pick-ok, Within, InTime, byte-steps, tick-steps}
+use Rattle.history.proofs.Reception.{Within, InTime, byte-steps, tick-steps}
+use Rattle.refusals.proofs.Picks.{pick-by, pick-ok}
 use Rattle.history.proofs.Job.{Good, due, waits, backs, awaiting}
 use Rattle.history.proofs.Links.{Sends, Outcome, byte-gave, tick-gave}
 use Rattle.history.proofs.Histories.{Keeps, after-keeps, Any, any-calls}

@@ -7,20 +7,13 @@ use native.Mathlib.Omega.{arith}
 use lib.Dec.{eqb, ltb}
 use borrow.Author.Tests.{ltb-true}
 use Rattle.refusals.specs.Pick.{pick}
+use Rattle.refusals.proofs.Picks.{pick-by, pick-ok}
 use Rattle.hearing.specs.Hearing.{hearByte, hearTick, hunted, clocked, later, isHunting}
 use Rattle.hearing.specs.declared.hearing.Hearing.{Hearing}
 use Rattle.hearing.specs.declared.hearing.Hearing.the-variants.{Hunting, Head, Body}
 use Rattle.hearing.specs.declared.hearing.Event.{Event}
 use Rattle.hearing.specs.declared.hearing.Event.the-variants.{Inside, Kept, Skipped, Alone, Ended, TickHunting, TickInside, Aborted}
 use Rattle.hearing.specs.declared.hearing.Heard.{Heard}
-
--- either way of a test
-pub pick-by : {A : Type 0} (P : A → Type 0) (x : Bool) (a b : A) → (x ≡ true → P a) → (x ≡ false → P b) → P (pick x a b)
-pick-by P true a b p q = p refl
-pick-by P false a b p q = q refl
-
-pub pick-ok : {A : Type 0} (P : A → Type 0) (x : Bool) (a b : A) → P a → P b → P (pick x a b)
-pick-ok P x a b p q = pick-by P x a b (λ _. p) (λ _. q)
 
 -- the ticks that a frame under reception has left, at most
 abbrev pub room : Hearing → ℕ

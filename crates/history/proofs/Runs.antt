@@ -13,7 +13,8 @@ use Rattle.link.specs.Out.{Out, Taken, byteOut, news, quiet, runFrom, runOut}
 use Rattle.job.specs.declared.job.Act.{Act}
 use Rattle.link.specs.declared.link.Link.{Link}
 use Rattle.history.specs.Received.{feed, fedLine, fedUp}
-use Rattle.history.proofs.Reception.{pick-by, no-tick}
+use Rattle.history.proofs.Reception.{no-tick}
+use Rattle.refusals.proofs.Picks.{pick-by}
 use Rattle.history.proofs.Links.{calm-byte, calm-line}
 
 -- a byte's report is no more than "nothing" or "skipped": it put out nothing and handed up nothing, and left the sender as it was

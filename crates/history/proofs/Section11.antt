@@ -36,7 +36,7 @@ use Rattle.report.specs.declared.Sending.the-variants as sending
 use Rattle.report.specs.declared.Session.the-variants as session
 use Rattle.link.specs.declared.link.Link.{Link}
 use Rattle.history.specs.Ranges.{IsInside}
-use Rattle.history.proofs.Reception.{pick-by, pick-ok}
+use Rattle.refusals.proofs.Picks.{pick-by, pick-ok}
 
 abbrev pub clockOf : Hearing → ℕ
 clockOf Hunting = 0

@@ -11,7 +11,7 @@ use native.Mathlib.Nat.{le-of-eq}
 use borrow.Author.Tests.{le-ltb, eq-eqb}
 use native.Mathlib.Omega.{arith}
 use Rattle.refusals.specs.Pick.{pick}
-use Rattle.refusals.proofs.Picks.{picked-first, picked-second}
+use Rattle.refusals.proofs.Picks.{picked-first, picked-second, no}
 use Rattle.masks.specs.Response.{isResponse}
 use Rattle.masks.specs.Mask.{isMarked}
 
@@ -23,19 +23,16 @@ bytes-from n body bytes i = rw (getD-drop n body i 0) (bytes (n + i))
 pub rest : (n : ℕ) (body : List ℕ) → take (length body - n) (drop n body) ≡ drop n body
 rest n body = take-all (length body - n) (drop n body) (le-of-eq (length-drop n body))
 
-no : false ≡ true → ⊥
-no e = let z : _≡_ {A = ℕ} 0 1 = cc in omega arith
-
 pub marks-rest : (n : ℕ) (body : List ℕ) (f : ℕ) {t : Bool} → isMarked (take (length body - n) (drop n body)) f ≡ t → isMarked (drop n body) f ≡ t
 marks-rest n body f e = ap (λ (mask : List ℕ). isMarked mask f) (sym (rest n body)) ∙ e
 
 -- a test that must hold, and what follows
 pub both : (t : Bool) {a : Bool} → pick t a false ≡ true → (t ≡ true) × (a ≡ true)
-both t = picked-first t no
+both t = picked-first t (λ e. no (sym e))
 
 -- a test that must not hold, and what follows
-pub neither : (t : Bool) {a : Bool} → pick t false a ≡ true → (t ≡ false) × (a ≡ true)
-neither t = picked-second t no
+pub unmet : (t : Bool) {a : Bool} → pick t false a ≡ true → (t ≡ false) × (a ≡ true)
+unmet t = picked-second t (λ e. no (sym e))
 
 pub answers-by : (body : List ℕ) (command : ℕ) → 2 ≤ length body → getD body 0 0 ≡ 1 → isResponse body command ≡ eqb (getD body 1 0) command
 answers-by body command h e = simp (le-ltb (length body) 2 h, eq-eqb (getD body 0 0) 1 e)

@@ -12,7 +12,7 @@ use lib.ListN.{length, getD, length-append, List·getD-append}
 use lib.Seq.{getD-append-seam}
 use borrow.Author.Tests.{leb-true, leb-false, ltb-true, ltb-false, eqb-true, eqb-false, eq-eqb, ne-eqb}
 use Rattle.masks.specs.Mask.{bitOf, isMarked, marked, Rising}
-use Rattle.masks.proofs.Layouts.{neither}
+use Rattle.masks.proofs.Layouts.{unmet}
 use Rattle.masks.proofs.Masks.{marked-yes, marked-no, marks-past}
 
 -- marked is: not 0, and the bit is 1
@@ -21,7 +21,7 @@ marks-one mask f = (to, from)
   where
     to : isMarked mask f ≡ true → (1 ≤ f) × (bitOf mask f ≡ 1)
     to e =
-        let parts = neither (eqb f 0) e in
+        let parts = unmet (eqb f 0) e in
         let not-zero : f ≡ 0 → ⊥ = eqb-false f 0 (parts .0) in
         (omega arith, eqb-true (bitOf mask f) 1 (parts .1))
 

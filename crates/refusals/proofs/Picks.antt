@@ -1,4 +1,4 @@
--- From what `pick` gave back to the test: a case that it cannot have given tells which one it did. And what a function makes of what it gave.
+-- From what `pick` gave back to the test: a case that it cannot have given tells which one it did. What a function makes of what it gave, and what holds of it.
 -- Assumes nothing.
 use Prim.Native.Nat.{ℕ}
 use native.Mathlib.Omega.{arith}
@@ -26,3 +26,15 @@ through-by f false p q = q
 
 pub through : {A B : Type 0} (f : A → B) (t : Bool) (x y : A) → f (pick t x y) ≡ pick t (f x) (f y)
 through f t x y = through-by f t refl refl
+
+-- what holds of both, each where the test leads to it, holds of what it picks
+pub pick-by : {A : Type 0} (P : A → Type 0) (x : Bool) (a b : A) → (x ≡ true → P a) → (x ≡ false → P b) → P (pick x a b)
+pick-by P true a b p q = p refl
+pick-by P false a b p q = q refl
+
+pub pick-ok : {A : Type 0} (P : A → Type 0) (x : Bool) (a b : A) → P a → P b → P (pick x a b)
+pick-ok P x a b p q = pick-by P x a b (λ _. p) (λ _. q)
+
+-- tests one after the other that gave false: neither was met
+pub neither : (x y : Bool) → pick x true y ≡ false → (x ≡ false) × (y ≡ false)
+neither x y e = picked-second x no e

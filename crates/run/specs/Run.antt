@@ -6,11 +6,10 @@ use mathlib.Core.List.{List, [], _∷_}
 use lib.Dec.{ltb, eqb}
 use lib.ListN.{length, drop, set, getD}
 use Rattle.refusals.specs.Pick.{pick}
-use Rattle.hearing.specs.Hearing.{heard, hearByte, keep, more}
+use Rattle.hearing.specs.Hearing.{heard, hearByte, keep}
 use Rattle.hearing.specs.declared.hearing.Heard.{Heard}
 use Rattle.hearing.specs.declared.hearing.Hearing.{Hearing}
 use Rattle.hearing.specs.declared.hearing.Hearing.the-variants.{Hunting}
-use Rattle.hearing.specs.declared.hearing.Partial.{Partial}
 use Rattle.run.specs.declared.run.Reach.{Reach}
 use mathlib.Core.Bool.{Bool, true, false}
 use Rattle.hearing.specs.declared.hearing.Event.{Event}
@@ -85,14 +84,10 @@ pub record Noise (bytes : List ℕ) (i n : ℕ) : Type 0 where
   pub within : n ≤ length bytes
   pub same : (e : Event) (body : List ℕ) → hearFrom (skipped e i i body) (drop i bytes) ≡ hearFrom (skipped e i n body) (drop n bytes)
 
--- Body bytes at once: each kept at its place, each counted and folded.
+-- Body bytes at once, each kept at its place.
 unfoldable pub kept : List ℕ → ℕ → List ℕ → List ℕ
 kept body at [] = body
 kept body at (b ∷ bs) = kept (set body at b) (at + 1) bs
-
-unfoldable pub walked : Partial → List ℕ → Partial
-walked p [] = p
-walked p (b ∷ bs) = walked (more p b) bs
 
 -- the byte of s that comes at this place of the body, or what was there
 abbrev pub picked : ℕ → ℕ → List ℕ → ℕ → ℕ

@@ -20,6 +20,7 @@ ghost use Prim.Native.Nat.{ℕ, _+_, _-_, _≤_, _<_, min};
 ghost use lib.ListN.{length};
 ghost use Rattle.frame.specs.Bytes.{fold};
 ghost use Rattle.frame.specs.Frame as frames;
+ghost use Rattle.hearing.specs.Hearing as hearings;
 ghost use Rattle.run.specs.Run as spec;
 ghost use Rattle.run.specs.Run.{HearRun, Noise, Quiet, Onward};
 ghost use Rattle.hearing.specs.declared.hearing.Hearing.the-variants as hearing;
@@ -123,7 +124,7 @@ fn walk(sum: u8, s: &[u8], at: u8, body: &mut [u8; MAX_BODY]) -> u8
 // A half-received frame with these body bytes more.
 fn walked(p: Partial, s: &[u8], body: &mut [u8; MAX_BODY]) -> Partial
     requires { ⌜ length (now s) ≤ p .size - p .at ⌝ }
-    ensures { λ r. ⌜ (r ≡ spec.walked p (now (s .entry))) × (length (now (body .entry)) ≡ frames.MAX_BODY → now (body .exit) ≡ spec.kept (now (body .entry)) (p .at) (now (s .entry))) × (length (now (body .exit)) ≡ length (now (body .entry))) ⌝ }
+    ensures { λ r. ⌜ (r ≡ hearings.walked p (now (s .entry))) × (length (now (body .entry)) ≡ frames.MAX_BODY → now (body .exit) ≡ spec.kept (now (body .entry)) (p .at) (now (s .entry))) × (length (now (body .exit)) ≡ length (now (body .entry))) ⌝ }
 {
     let kind = picked(p.at, 0, s, p.kind);
     let command = picked(p.at, 1, s, p.command);

@@ -12,6 +12,7 @@ use lib.ListN.{length}
 use lib.Seq.{take-append-seam}
 use borrow.Author.Tests.{lt-ltb, le-ltb, ne-eqb}
 use Rattle.refusals.specs.Pick.{pick}
+use Rattle.refusals.proofs.Picks.{pick-ok}
 use Rattle.frame.specs.Bytes.{over}
 use Rattle.frame.specs.Frame.{frameOf}
 use Rattle.rules.specs.Rules.{Rules, time, base}
@@ -274,13 +275,8 @@ module _ (R : Rules) (backs : (n : ℕ) → 0 < R .back time n) where
             (then R a f (acknowledged R command f 4 (R .wait (length f) - 1)) (no-response R command f 4))));
       }
 
--- ---- document 01's rules
-either-some : (t : Bool) (x y : ℕ) → 0 < x → 0 < y → 0 < pick t x y
-either-some true x y p q = p
-either-some false x y p q = q
-
 base-backs : (n : ℕ) → 0 < base .back time n
-base-backs n = either-some (eqb n 1) 100 _ (omega arith) (either-some (eqb n 2) 1100 2100 (omega arith) (omega arith))
+base-backs n = pick-ok (λ (k : ℕ). 0 < k) (eqb n 1) 100 _ (omega arith) (pick-ok (λ (k : ℕ). 0 < k) (eqb n 2) 1100 2100 (omega arith) (omega arith))
 
 -- in numbers: the same calls for every frame
 abbrev pub inFrame : ℕ → List Call

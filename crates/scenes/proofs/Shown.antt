@@ -10,7 +10,7 @@ use lib.Dec.{eqb}
 use borrow.Author.Tests.{ne-eqb}
 use Rattle.refusals.specs.Pick.{pick}
 use Rattle.link.specs.Out.{Out, news}
-use Rattle.history.proofs.Reception.{pick-ok}
+use Rattle.refusals.proofs.Picks.{pick-ok}
 use Rattle.scenes.specs.Scene.{shows}
 
 pub shows-bytes : (o : Out) (b : ℕ) (bs : List ℕ) → o .line ≡ b ∷ bs → shows o ≡ true

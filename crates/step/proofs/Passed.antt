@@ -7,7 +7,7 @@ use native.Mathlib.Omega.{arith}
 use lib.Dec.{ltb}
 use borrow.Author.Tests.{ltb-false}
 use Rattle.refusals.specs.Pick.{pick}
-use Rattle.refusals.proofs.Picks.{no}
+use Rattle.refusals.proofs.Picks.{neither}
 use Rattle.refusals.specs.declared.Refusal.{Refusal}
 use Rattle.refusals.specs.declared.Refusal.the-variants.{Room, Busy, Kind, Long}
 use Rattle.job.specs.Job.{isOpen}
@@ -15,10 +15,6 @@ use Rattle.job.specs.declared.job.Job.{Job}
 use Rattle.step.specs.declared.checks.Checked.{Checked}
 use Rattle.step.specs.declared.checks.Checked.the-variants.{Passes, Refuses}
 use Rattle.step.specs.Checks.{check, lacksRoom, roomChecks, sendOwn, sessionOwn}
-
-neither : (x y : Bool) → pick x true y ≡ false → (x ≡ false) × (y ≡ false)
-neither true y e = absurd (no e)
-neither false y e = (refl, e)
 
 pub has-room : (line up : ℕ) → lacksRoom line up ≡ false → (258 ≤ line) × (254 ≤ up)
 has-room line up e =
