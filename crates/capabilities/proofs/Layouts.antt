@@ -10,7 +10,8 @@ use borrow.Author.Tests.{ltb-false}
 use Rattle.masks.specs.Response.{isResponse}
 use Rattle.masks.specs.Mask.{isMarked}
 use Rattle.masks.proofs.Layouts.{both, unmet}
-use Rattle.capabilities.specs.Capabilities.{isCapabilities, functionMask, OfCapabilities, capabilitiesOf, readCapabilities}
+use Rattle.capabilities.specs.Capabilities.{isCapabilities, functionMask, capabilitiesOf, readCapabilities}
+use Rattle.capabilities.specs.Contracts.{OfCapabilities}
 use Rattle.capabilities.specs.declared.Capabilities.the-variants.{Answer}
 
 pub of-capabilities : (body : List ℕ) → isCapabilities body ≡ true → OfCapabilities body

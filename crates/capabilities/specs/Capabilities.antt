@@ -1,7 +1,6 @@
 -- Section 8, Capabilities RES (002, 7.3): 8 fixed bytes, then 0 to 32 mask bytes. The bit for 256 must be 0.
 -- Assumes nothing.
-use Prim.Native.Nat.{ℕ, _+_, _*_, _≤_}
-use mathlib.Core.Path.{_≡_}
+use Prim.Native.Nat.{ℕ, _+_, _*_}
 use mathlib.Core.Bool.{Bool, true, false}
 use mathlib.Core.List.{List, [], _∷_}
 use lib.Dec.{ltb}
@@ -31,12 +30,6 @@ isCapabilities body =
     (pick (ltb 42 (length body)) false
     (pick (isMarked (functionMask body) 256) false true)))
     false
-
--- what the layout says of a body
-pub record OfCapabilities (body : List ℕ) : Type 0 where
-  pub least : 10 ≤ length body
-  pub most : length body ≤ 42
-  pub clear : isMarked (functionMask body) 256 ≡ false
 
 -- the number of supported functions
 abbrev pub supported : List ℕ → ℕ

@@ -1,1 +1,2 @@
 pub mod Capabilities
+pub mod Contracts

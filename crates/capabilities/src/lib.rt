@@ -6,7 +6,8 @@ ghost use mathlib.Core.Path.{_≡_};
 ghost use Prim.Native.Nat.{_≤_};
 ghost use lib.ListN.{length};
 ghost use Rattle.masks.specs.Mask.{onesIn};
-ghost use Rattle.capabilities.specs.Capabilities.{word, isCapabilities, OfCapabilities, capabilitiesOf, readCapabilities, supports};
+ghost use Rattle.capabilities.specs.Capabilities.{word, isCapabilities, capabilitiesOf, readCapabilities, supports};
+ghost use Rattle.capabilities.specs.Contracts.{OfCapabilities};
 
 pub enum Capabilities {
     Refused(Refusal),

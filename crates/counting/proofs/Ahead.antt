@@ -24,7 +24,7 @@ use Rattle.tally.specs.declared.Counts.{Counts}
 use Rattle.tally.specs.declared.Tally.{Tally}
 use Rattle.tally.specs.Tally.{endColumn, added, tallied, countByte}
 use Rattle.counting.specs.Counting.{count}
-use Rattle.counting.specs.Ahead.{hunting, apart, whole, Ahead, Beyond}
+use Rattle.counting.specs.Contracts.{hunting, apart, whole, Ahead, Beyond}
 use Rattle.counting.proofs.Laws.{count-more}
 
 abbrev headed : Counts → Tally

@@ -12,7 +12,7 @@ ghost use Prim.Native.Nat.{_<_, _≤_};
 ghost use lib.ListN.{length, getD};
 ghost use Rattle.tally.specs.Tally.{added};
 ghost use Rattle.counting.specs.Counting.{count};
-ghost use Rattle.counting.specs.Ahead.{Ahead, Beyond, hunting, apart, whole};
+ghost use Rattle.counting.specs.Contracts.{Ahead, Beyond, hunting, apart, whole};
 
 // Counts part of the way through the bytes: those before `at` are counted, and the hearing hunts there.
 struct Stretch {

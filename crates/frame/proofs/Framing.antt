@@ -8,7 +8,8 @@ use native.Mathlib.Nat.{le-refl}
 use native.Mathlib.Omega.{arith}
 use lib.ListN.{length, take, drop, set, length-set}
 use lib.Seq.{paste, take-at, take-length}
-use Rattle.frame.specs.Bytes.{over, fold, Lay}
+use Rattle.frame.specs.Bytes.{over, fold}
+use Rattle.frame.specs.Contracts.{Lay}
 use Rattle.frame.specs.Frame.{counted, checksum, frameOf}
 use Rattle.frame.proofs.Over.{put-byte, put-bytes, laid-in}
 

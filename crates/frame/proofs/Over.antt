@@ -18,7 +18,8 @@ use lib.ListN.{length, take, set, length-append, length-take, length-drop}
 use lib.Seq.{paste, length-paste, take-all, take-append-seam, drop-append-add, drop-drop, length-take-le, drop-cons, set-append-seam, append-snoc, take-length}
 use borrow.Author.Tests.{leb-true, leb-false, le-ltb, ltb-false}
 use Rattle.refusals.specs.Pick.{pick}
-use Rattle.frame.specs.Bytes.{over, Lay}
+use Rattle.frame.specs.Bytes.{over}
+use Rattle.frame.specs.Contracts.{Lay}
 
 pub over-length : (bs d : List ℕ) → length bs ≤ length d → length (over bs d) ≡ length d
 over-length bs d h = simp (length-append, length-drop) (omega arith)

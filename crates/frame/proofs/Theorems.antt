@@ -13,7 +13,8 @@ use borrow.Author.Tests.{ltb-false, le-ltb}
 use Rattle.refusals.specs.declared.Refusal.{Refusal}
 use Rattle.frame.specs.declared.builder.Built.{Built}
 use Rattle.frame.specs.declared.builder.Built.the-variants.{Refused, Frame}
-use Rattle.frame.specs.Bytes.{fold, Lay}
+use Rattle.frame.specs.Bytes.{fold}
+use Rattle.frame.specs.Contracts.{Lay}
 use Rattle.frame.specs.Frame.{counted, checksum, frameOf}
 use Rattle.refusals.specs.Pick.{pick}
 use Rattle.frame.specs.Builder.{builtOf, builtTold, Build}

@@ -2,10 +2,11 @@
 ghost use mathlib.Core.Path.{_≡_};
 ghost use Prim.Native.Nat.{min};
 ghost use Rattle.frame.specs.Bytes as spec;
+ghost use Rattle.frame.specs.Contracts.{Lay};
 
 // Copies the first n bytes of src over dst from `at`, and says whether all of them were there and fitted; if not, nothing is copied.
 pub fn lay(src: &[u8], n: usize, dst: &mut [u8], at: usize) -> bool
-    ensures { λ r. ⌜ spec.Lay (now (src .entry)) n (now (dst .entry)) at r (now (dst .exit)) ⌝ }
+    ensures { λ r. ⌜ Lay (now (src .entry)) n (now (dst .entry)) at r (now (dst .exit)) ⌝ }
 {
     if src.len() < n {
         return false;

@@ -13,7 +13,7 @@ use Rattle.reading.proofs.Theorems.{built-reads}
 use Rattle.rules.specs.Rules.{Rules}
 use Rattle.hearing.specs.Hearing.{heard, hearByte, hearTick, hunted, more, ended, later, keep}
 use Rattle.link.specs.Link.{freshLink, noBody}
-use Rattle.link.specs.Out.{Out, Taken, out, byteBy, byteOut, tickOut, openOut, restartOut, runOut, heardOut}
+use Rattle.link.specs.Out.{Out, Taken, byteBy, byteOut, tickOut, openOut, restartOut, runOut, heardOut}
 use Rattle.step.specs.Checks.{roomChecks}
 use Rattle.step.specs.declared.checks.Checked.{Checked}
 use Rattle.step.specs.declared.checks.Checked.the-variants.{Passes, Refuses}

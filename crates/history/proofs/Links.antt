@@ -5,32 +5,25 @@ use mathlib.Core.Path.{_≡_, refl, ap, sym, _∙_, subst}
 use mathlib.Core.Bool.{Bool, true, false, false≢true}
 use mathlib.Core.List.{List, [], _∷_, _++_, append-nil}
 use native.Mathlib.Omega.{arith}
-use lib.Dec.{eqb, ltb}
 use lib.ListN.{take}
 use Rattle.refusals.specs.Pick.{pick}
-use Rattle.rules.specs.Rules.{Rules, told}
+use Rattle.rules.specs.Rules.{Rules}
 use Rattle.hearing.specs.Hearing.{hearByte, hearTick}
 use Rattle.job.specs.Job.{still}
-use Rattle.sending.specs.Events.{onSingle, awaits, copiesOf, onEvent, awaitedBy}
+use Rattle.sending.specs.Events.{copiesOf, onEvent, awaitedBy}
 use Rattle.report.specs.Report.{newsReception, newsSending}
 use Rattle.step.specs.Deciding.{decided}
 use Rattle.link.specs.Out.{Out, Taken, out, byteBy, byteOut, tickOut, news, quiet, runFrom, runOut, heardOut}
 use Rattle.hearing.specs.declared.hearing.Hearing.{Hearing}
-use Rattle.hearing.specs.declared.hearing.Single.{Single}
-use Rattle.hearing.specs.declared.hearing.Single.the-variants.{Ack, Nak, Can}
-use Rattle.hearing.specs.declared.hearing.End.{End}
-use Rattle.hearing.specs.declared.hearing.End.the-variants as end
 use Rattle.hearing.specs.declared.hearing.Event.{Event}
 use Rattle.hearing.specs.declared.hearing.Event.the-variants.{Inside, Kept, Skipped, Alone, Ended, TickHunting, TickInside, Aborted}
 use Rattle.hearing.specs.declared.hearing.Heard.{Heard}
 use Rattle.job.specs.declared.job.Act.{Act}
 use Rattle.job.specs.declared.job.Asking.{Asking}
-use Rattle.job.specs.declared.job.Asking.the-variants.{Plain, Asks}
 use Rattle.job.specs.declared.job.Job.{Job}
-use Rattle.job.specs.declared.job.Job.the-variants.{Idle, Due, Waiting, BackingOff, Awaiting}
+use Rattle.job.specs.declared.job.Job.the-variants.{Idle}
 use Rattle.report.specs.declared.Sending.the-variants as sending
 use Rattle.report.specs.declared.Session.the-variants as session
-use Rattle.report.specs.declared.Reception.{Reception}
 use Rattle.reception.specs.declared.said.Reply.{Reply}
 use Rattle.reception.specs.declared.said.Reply.the-variants as reply
 use Rattle.reception.specs.declared.said.Said.{Said}
@@ -42,9 +35,9 @@ use Rattle.history.specs.Watch.{Verdict, copiesIn, isFailure, isOwn, Say
 use Rattle.history.specs.Bound.{Fits}
 use Rattle.history.proofs.Mix.{Mix, end as finish, one, copy, mix-append}
 use Rattle.history.proofs.Reception.{InTime, Steps, ticksAt, byte-steps, tick-steps}
-use Rattle.refusals.proofs.Picks.{neither, pick-by, pick-ok}
+use Rattle.refusals.proofs.Picks.{neither, pick-by}
 use Rattle.history.proofs.Job.{Good, left, ones, Claim, no-verdict, act-ok}
-use Rattle.reception.specs.Said.{replyBytes, saidEnd, saidOn}
+use Rattle.reception.specs.Said.{replyBytes, saidOn}
 use Rattle.reception.specs.Sums.{sumsOn}
 
 -- ---- a byte whose report is no more than "nothing" or "skipped" changes the job in nothing, puts nothing out and hands nothing up

@@ -17,7 +17,7 @@ use Rattle.link.specs.Calls.{answered as answeredBy, ran as ranBy, left, CallPr
 use Rattle.link.specs.declared.calls.Answered.{Answered}
 use Rattle.link.specs.declared.calls.Ran.{Ran}
 use Rattle.link.specs.declared.link.Link.{Link}
-use Rattle.history.specs.Perform.{What, byte, bytes, tick, send, session, restart, Done, doneBy, perform}
+use Rattle.history.specs.Perform.{byte, bytes, tick, send, session, restart, Done, doneBy, perform}
 use Rattle.history.specs.History.{next, run, after}
 use Rattle.history.specs.Played.{answered, ran, Played, played, Promised, byteCall, bytesCall, tickCall, sendCall, sessionCall, restartCall, Plays, none, then, callOf, callsOf, answerOf, runAnswerOf, lineOf, upOf, Tied, AllTied}
 

@@ -6,7 +6,6 @@ use mathlib.Core.Bool.{Bool, true, false}
 use native.Mathlib.Omega.{arith}
 use lib.Dec.{eqb, ltb}
 use borrow.Author.Tests.{ltb-true}
-use Rattle.refusals.specs.Pick.{pick}
 use Rattle.refusals.proofs.Picks.{pick-by, pick-ok}
 use Rattle.hearing.specs.Hearing.{hearByte, hearTick, hunted, clocked, later, isHunting}
 use Rattle.hearing.specs.declared.hearing.Hearing.{Hearing}

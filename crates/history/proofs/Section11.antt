@@ -15,7 +15,7 @@ use Rattle.job.specs.Job.{nextCopy, putOut}
 use Rattle.job.specs.Ticks.{onTick, onAbort}
 use Rattle.sending.specs.Events.{release, awaits, onEnd, onEvent, awaitedBy}
 use Rattle.reception.specs.Said.{replyBytes, saidEnd, saidOn}
-use Rattle.link.specs.Out.{Out, out, byteBy, byteOut, tickOut, heardOut}
+use Rattle.link.specs.Out.{Out, byteBy, byteOut, tickOut, heardOut}
 use Rattle.hearing.specs.declared.hearing.Partial.{Partial}
 use Rattle.hearing.specs.declared.hearing.Hearing.{Hearing}
 use Rattle.hearing.specs.declared.hearing.Hearing.the-variants.{Hunting, Head, Body}

@@ -10,7 +10,7 @@ use Rattle.rules.specs.Rules.{Rules, Cause, told, time, base}
 use Rattle.job.specs.declared.job.Asking.{Asking}
 use Rattle.job.specs.declared.job.Asking.the-variants.{Plain, Asks}
 use Rattle.link.specs.Out.{Out}
-use Rattle.history.specs.Perform.{tick, send, session, restart, Call, took, perform}
+use Rattle.history.specs.Perform.{send, session, Call, took, perform}
 use Rattle.history.specs.History.{after, ticksIn, restartsIn}
 use Rattle.history.specs.Cut.{frames}
 use Rattle.history.specs.Watch.{failed, notSent, Watch, going, gone, ended, watched, verdictsFrom, linesFrom, verdictsBy}

@@ -3,7 +3,7 @@ use libc::STDERR_FILENO;
 use libc::STDIN_FILENO;
 use libc::STDOUT_FILENO;
 use tally::Tally;
-ghost use Rattle.linecount.specs.Reads.{Within};
+ghost use Rattle.linecount.specs.Contracts.{Within};
 ghost use Prim.Native.Nat.{_≤_};
 ghost use lib.ListN.{length};
 

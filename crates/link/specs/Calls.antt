@@ -2,7 +2,7 @@
 -- Assumes nothing.
 use Prim.Native.Nat.{ℕ}
 use mathlib.Core.Path.{_≡_}
-use mathlib.Core.List.{List, []}
+use mathlib.Core.List.{List}
 use Rattle.frame.specs.Bytes.{over}
 use Rattle.step.specs.Checks.{checks}
 use Rattle.step.specs.declared.checks.Checked.{Checked}
@@ -27,12 +27,6 @@ ran (Refuses k) t l = record { link = l; answer = run.Refused k }
 abbrev pub left : Checked → List ℕ → List ℕ → List ℕ
 left Passes bytes lent = over bytes lent
 left (Refuses k) bytes lent = lent
-
--- an accepted call that hands nothing up
-pub record Emitted (o : Out) (line : List ℕ) (r : Answered) (line′ : List ℕ) : Type 0 where
-  pub answer : r ≡ record { link = o .link; answer = answer.Done (outReport o) }
-  pub line-left : line′ ≡ over (o .line) line
-  pub none-up : o .up ≡ []
 
 -- the promise of a link call with these checks of its own, that gives o on the link l
 pub record CallPromise (own : Checked) (o : Out) (l : Link) (line up : List ℕ) (r : Answered) (line′ up′ : List ℕ) : Type 0 where

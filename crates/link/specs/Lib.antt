@@ -2,3 +2,4 @@ pub mod Link
 pub mod Out
 pub mod Calls
 pub mod Answers
+pub mod Contracts

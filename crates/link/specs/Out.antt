@@ -49,10 +49,6 @@ outReport o =
       up = length (o .up);
     }
 
--- the same of an outcome, with these numbers of bytes
-abbrev pub reportOf : Outcome → ℕ → ℕ → Report
-reportOf o line up = record { reception = o .reception; sending = o .sending; session = o .session; reset = o .reset; line = line; up = up }
-
 -- the numbers of the next link: what was decided, beside hearing and the held frame's length
 abbrev pub coreOf : Outcome → Hearing → ℕ → Core
 coreOf o h size = record { hearing = h; job = o .job; bad = o .bad; size = size }

@@ -9,7 +9,6 @@ use lib.ListN.{length, getD, take, drop, length-drop}
 use lib.Seq.{take-all, getD-drop}
 use native.Mathlib.Nat.{le-of-eq}
 use borrow.Author.Tests.{le-ltb, eq-eqb}
-use native.Mathlib.Omega.{arith}
 use Rattle.refusals.specs.Pick.{pick}
 use Rattle.refusals.proofs.Picks.{picked-first, picked-second, no}
 use Rattle.masks.specs.Response.{isResponse}

@@ -11,7 +11,8 @@ use native.Mathlib.Omega.{arith}
 use Rattle.refusals.specs.Pick.{pick}
 use Rattle.masks.specs.Response.{isResponse}
 use Rattle.masks.proofs.Layouts.{both}
-use Rattle.nodes.specs.Nodes.{isNodeList, nodeAnswer, nodeListOf, OfNodeList}
+use Rattle.nodes.specs.Nodes.{isNodeList, nodeAnswer, nodeListOf}
+use Rattle.nodes.specs.Contracts.{OfNodeList}
 
 of-size : (body : List ℕ) (t u : Bool) → eqb (length body) 36 ≡ t → eqb (length body) 7 ≡ u
     → pick t (eqb (getD body 4 0) 29) (pick u (eqb (getD body 4 0) 0) false) ≡ true → OfNodeList body

@@ -10,7 +10,8 @@ use lib.ListN.{length, getD, take, drop, set, length-append}
 use Rattle.frame.specs.Bytes.{over}
 use Rattle.frame.proofs.Over.{put-byte}
 use Rattle.masks.specs.Mask.{isMarked, marked}
-use Rattle.nodes.specs.Nodes.{nodesOf, ListNodes, Fill}
+use Rattle.nodes.specs.Nodes.{nodesOf}
+use Rattle.nodes.specs.Contracts.{ListNodes, Fill}
 use Rattle.nodes.specs.declared.NodeList.the-variants.{Answer}
 use Rattle.masks.proofs.Masks.{marked-yes, marked-no}
 

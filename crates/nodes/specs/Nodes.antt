@@ -1,6 +1,6 @@
 -- Section 8, Node list RES (002, 7.4): version, capabilities, 29, 29 mask bytes, chip type, chip version; or with 0 for 29 and no mask.
 -- Assumes nothing.
-use Prim.Native.Nat.{ℕ, _+_, _≤_}
+use Prim.Native.Nat.{ℕ, _+_}
 use mathlib.Core.Path.{_≡_}
 use mathlib.Core.Bool.{Bool, false}
 use mathlib.Core.List.{List, [], _∷_}
@@ -62,18 +62,3 @@ listLeft (Answer v c n t u) nodes lent = over nodes lent
 pub record ReadNodes (body lent : List ℕ) (r : NodeList) (lent′ : List ℕ) : Type 0 where
   pub answer : r ≡ nodeListOf body (length lent)
   pub left : lent′ ≡ listLeft (nodeListOf body (length lent)) (nodesOf body) lent
-
--- what the layouts say of a body
-pub record OfNodeList (body : List ℕ) : Type 0 where
-  pub few : getD body 4 0 ≤ 29
-  pub size : length body ≡ getD body 4 0 + 7
-
--- what is answered and written of a body of one of the layouts
-pub record Fill (body lent : List ℕ) (r : NodeList) (lent′ : List ℕ) : Type 0 where
-  pub answer : r ≡ nodeAnswer body
-  pub left : lent′ ≡ over (nodesOf body) lent
-
--- what the loop over a mask writes and answers
-pub record ListNodes (mask lent : List ℕ) (n : ℕ) (lent′ : List ℕ) : Type 0 where
-  pub count : n ≡ length (marked mask 232)
-  pub left : lent′ ≡ over (marked mask 232) lent

@@ -5,7 +5,8 @@ use refusals::Refusal;
 ghost use mathlib.Core.Path.{_≡_};
 ghost use Prim.Native.Nat.{_≤_};
 ghost use lib.ListN.{length};
-ghost use Rattle.nodes.specs.Nodes.{isNodeList, OfNodeList, Fill, ReadNodes, ListNodes};
+ghost use Rattle.nodes.specs.Nodes.{isNodeList, ReadNodes};
+ghost use Rattle.nodes.specs.Contracts.{OfNodeList, Fill, ListNodes};
 
 pub enum NodeList {
     Refused(Refusal),

@@ -8,7 +8,7 @@ use lib.ListN.{length}
 use Rattle.refusals.proofs.Theorems.{fixed}
 use Rattle.hearing.specs.declared.hearing.Hearing.{Hearing}
 use Rattle.run.specs.declared.run.Reach.{Reach}
-use Rattle.run.specs.Run.{Far, gone, HearRun}
+use Rattle.run.specs.Contracts.{Far, gone, HearRun}
 
 pub hear-run-determined : {before : Hearing} {bytes body : List ℕ} {r q : Reach} {a b : List ℕ}
     → length body ≡ 254 → (length body ≡ 254 → HearRun before bytes body r a) → (length body ≡ 254 → HearRun before bytes body q b) → (r ≡ q) × (a ≡ b)

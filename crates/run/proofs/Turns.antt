@@ -29,7 +29,7 @@ use Rattle.hearing.specs.declared.hearing.Hearing.the-variants.{Hunting, Head, 
 use Rattle.hearing.specs.declared.hearing.Partial.{Partial}
 use Rattle.run.specs.declared.run.Reach.{Reach}
 use Rattle.hearing.specs.Hearing.{heard, hunted, measured, begun, more, followed, hearByte, keep, walked}
-use Rattle.run.specs.Run.{Far, hasNews, behind, hearFrom, far, gone, onFrom, Quiet, Onward, isSign, skipped, Noise, kept, picked}
+use Rattle.run.specs.Contracts.{Far, hasNews, behind, hearFrom, far, gone, onFrom, Quiet, Onward, isSign, skipped, Noise, kept, picked}
 
 -- ---- hearing at what is left
 module _ (f : Far) (i : ℕ) (bytes : List ℕ) where

@@ -21,8 +21,8 @@ ghost use lib.ListN.{length};
 ghost use Rattle.frame.specs.Bytes.{fold};
 ghost use Rattle.frame.specs.Frame as frames;
 ghost use Rattle.hearing.specs.Hearing as hearings;
-ghost use Rattle.run.specs.Run as spec;
-ghost use Rattle.run.specs.Run.{HearRun, Noise, Quiet, Onward};
+ghost use Rattle.run.specs.Contracts as spec;
+ghost use Rattle.run.specs.Contracts.{HearRun, Noise, Quiet, Onward};
 ghost use Rattle.hearing.specs.declared.hearing.Hearing.the-variants as hearing;
 
 // How far a run of bytes was heard: the hearing after it, the last event, and how many bytes were taken.

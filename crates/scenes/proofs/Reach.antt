@@ -2,7 +2,7 @@
 -- Assumes nothing.
 use Prim.Native.Nat.{ℕ, zero, suc, _+_, _-_, _≤_, _<_}
 use mathlib.Core.Path.{_≡_, refl, ap, ap₂, sym, _∙_, subst}
-use mathlib.Core.Bool.{Bool, true, false}
+use mathlib.Core.Bool.{true, false}
 use mathlib.Core.List.{List, [], _∷_, _++_, append-assoc, append-nil}
 use native.Mathlib.Omega.{arith}
 use native.Mathlib.Nat.{add-assoc, add-zero, zero-add}
@@ -11,7 +11,6 @@ use lib.Dec.{eqb}
 use lib.ListN.{length}
 use lib.Seq.{take-append-seam}
 use borrow.Author.Tests.{lt-ltb, le-ltb, ne-eqb}
-use Rattle.refusals.specs.Pick.{pick}
 use Rattle.refusals.proofs.Picks.{pick-ok}
 use Rattle.frame.specs.Bytes.{over}
 use Rattle.frame.specs.Frame.{frameOf}

@@ -8,12 +8,14 @@ use native.Mathlib.Nat.{min-le-right, zero-add}
 use native.Mathlib.Omega.{arith}
 use lib.ListN.{length, take, length-append, length-take}
 use borrow.Author.Tests.{lt-ltb, le-ltb}
-use Rattle.frame.specs.Bytes.{over, Lay}
+use Rattle.frame.specs.Bytes.{over}
+use Rattle.frame.specs.Contracts.{Lay}
 use Rattle.frame.proofs.Over.{over-length, put-bytes, take-min, laid-in}
 use Rattle.reception.specs.declared.said.Reply.{Reply}
 use Rattle.reception.specs.declared.said.Reply.the-variants.{Silent, Ack, Nak}
 use Rattle.reception.specs.Said.{replyBytes}
-use Rattle.writing.specs.Writing.{Put, lineBytes, byteFits, PutLine, PutUp}
+use Rattle.writing.specs.Writing.{lineBytes}
+use Rattle.writing.specs.Contracts.{Put, byteFits, PutLine, PutUp}
 
 pub reply-short : (r : Reply) → length (replyBytes r) ≤ 1
 reply-short Silent = omega arith

@@ -9,7 +9,7 @@ use mathlib.Core.List.{List}
 use Prim.Native.Nat.{ℕ}
 use Rattle.refusals.proofs.Theorems.{fixed}
 use Rattle.reception.specs.declared.said.Reply.{Reply}
-use Rattle.writing.specs.Writing.{Put, PutLine, PutUp}
+use Rattle.writing.specs.Contracts.{Put, PutLine, PutUp}
 
 pub put-determined : {bytes lent : List ℕ} {r q : ℕ} {a b : List ℕ} → Put bytes lent r a → Put bytes lent q b → (r ≡ q) × (a ≡ b)
 put-determined x y = (fixed (x .count) (y .count), fixed (x .left) (y .left))

@@ -8,7 +8,7 @@ ghost use mathlib.Core.Path.{_≡_};
 ghost use mathlib.Core.List.{[]};
 ghost use Rattle.refusals.specs.Pick.{pick};
 ghost use Rattle.reception.specs.Said.{replyBytes};
-ghost use Rattle.writing.specs.Writing.{Put, byteFits, PutLine, PutUp};
+ghost use Rattle.writing.specs.Contracts.{Put, byteFits, PutLine, PutUp};
 
 // Writes the single byte, where there is one, if the line is not empty; returns how many bytes.
 pub fn put_reply(reply: Reply, line: &mut [u8]) -> u16

@@ -6,7 +6,8 @@ use mathlib.Core.Bool.{Bool}
 use native.Mathlib.Omega.{arith}
 use denote.Ref.{now}
 use Rattle.refusals.specs.Pick.{pick}
-use Rattle.capabilities.specs.Capabilities.{supports, OfCapabilities}
+use Rattle.capabilities.specs.Capabilities.{supports}
+use Rattle.capabilities.specs.Contracts.{OfCapabilities}
 use Rattle.capabilities.specs.declared.Support.the-variants.{Supported, Unsupported}
 use Rattle.masks.proofs.Layouts.{marks-rest}
 use Rattle.capabilities.proofs.Layouts.{of-capabilities}

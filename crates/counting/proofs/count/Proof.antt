@@ -5,7 +5,7 @@ use Prim.Native.Nat.{_-_}
 use native.Mathlib.Omega.{arith}
 use lib.ListN.{length}
 use denote.Ref.{now}
-use Rattle.counting.specs.Ahead.{Ahead}
+use Rattle.counting.specs.Contracts.{Ahead}
 use Rattle.counting.proofs.Laws.{count-end}
 use Rattle.counting.proofs.Ahead.{ahead-none, ahead-on}
 use Rattle.counting.proofs.count.Statement.{statement}

@@ -3,7 +3,7 @@
 use Prim.Native.Nat.{_-_}
 use native.Mathlib.Omega.{arith}
 use lib.ListN.{length}
-use Rattle.counting.specs.Ahead.{hunting, Ahead}
+use Rattle.counting.specs.Contracts.{hunting, Ahead}
 use Rattle.counting.proofs.Ahead.{ahead-none, ahead-ahead}
 use Rattle.counting.proofs.hunt.Statement.{statement}
 use Rattle.counting.proofs.hunt.Tie as tie

@@ -1,6 +1,5 @@
 -- `counting::single` meets its contract: one byte is behind.
 -- Assumes nothing.
-use Prim.Native.Nat.{_-_}
 use borrow.Author.Needs.{needs}
 use denote.Ref.{now}
 use Rattle.counting.proofs.Ahead.{byte-at}

@@ -1,6 +1,5 @@
 -- `counting::step` meets its contract: a whole frame, or a byte while hunting.
 -- Assumes nothing.
-use Prim.Native.Nat.{_-_}
 use native.Mathlib.Omega.{arith}
 use denote.Ref.{now}
 use Rattle.counting.proofs.Ahead.{apart-at, counts-are}

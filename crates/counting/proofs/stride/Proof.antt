@@ -4,10 +4,10 @@ use mathlib.Core.Path.{_≡_, refl, sym, ap, _∙_}
 use Prim.Native.Nat.{ℕ, _+_, _-_}
 use native.Mathlib.Omega.{arith}
 use borrow.Author.Needs.{needs}
-use lib.ListN.{length, take, drop, getD}
+use lib.ListN.{take, drop, getD}
 use denote.Ref.{now}
 use Rattle.frame.specs.Bytes.{fold}
-use Rattle.counting.specs.Ahead.{whole}
+use Rattle.counting.specs.Contracts.{whole}
 use Rattle.tally.specs.Tally.{added}
 use Rattle.counting.proofs.Ahead.{short-at, whole-at, counts-are}
 use Rattle.counting.proofs.stride.Statement.{statement}

@@ -8,7 +8,7 @@ use lib.ListN.{length}
 use lib.Seq.{length-take-le}
 use Rattle.linecount.specs.declared.Got.{Got}
 use Rattle.linecount.specs.declared.Got.the-variants.{Bytes}
-use Rattle.linecount.specs.Reads.{Within}
+use Rattle.linecount.specs.Contracts.{Within}
 use Rattle.linecount.proofs.count_input.Statement.{statement}
 use Rattle.linecount.proofs.count_input.Tie as tie
 

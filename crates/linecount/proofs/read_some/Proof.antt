@@ -3,7 +3,7 @@
 use mathlib.Core.Path.{sym}
 use borrow.Author.Needs.{needs}
 use lib.Seq.{length-take-le}
-use Rattle.frame.proofs.Theorems.{least-first, least-second}
+use Rattle.frame.proofs.Theorems.{least-second}
 use Rattle.linecount.proofs.read_some.Statement.{statement}
 use Rattle.linecount.proofs.read_some.Tie as tie
 

@@ -11,7 +11,7 @@ use borrow.Author.Tests.{lt-ltb, le-ltb}
 use lib.ListN.{length, length-set}
 use lib.Seq.{paste, paste-zero, paste-suc}
 use denote.Ref.{now}
-use Rattle.frame.specs.Bytes.{Lay}
+use Rattle.frame.specs.Contracts.{Lay}
 use Rattle.frame.proofs.bytes.lay.Statement.{statement}
 use Rattle.frame.proofs.bytes.lay.Tie as tie
 

@@ -7,7 +7,7 @@ use denote.Ref.{now}
 use lib.ListN.{length, take, drop}
 use Rattle.hearing.specs.declared.hearing.Heard.{Heard}
 use Rattle.run.specs.declared.run.Reach.{Reach}
-use Rattle.run.specs.Run.{gone, kept}
+use Rattle.run.specs.Contracts.{gone, kept}
 use Rattle.hearing.specs.Hearing.{walked}
 use Rattle.run.proofs.Turns.{part-length, walked-at, bodied-whole, bodied-part}
 use borrow.Author.Needs.{needs}

@@ -5,7 +5,7 @@ use Prim.Native.Nat.{_+_}
 use denote.Ref.{now}
 use Rattle.hearing.specs.declared.hearing.Heard.{Heard}
 use Rattle.run.specs.declared.run.Reach.{Reach}
-use Rattle.run.specs.Run.{gone}
+use Rattle.run.specs.Contracts.{gone}
 use Rattle.run.proofs.Turns.{headed-one}
 use borrow.Author.Needs.{needs}
 use Rattle.run.proofs.run.head_on.Statement.{statement}

@@ -8,7 +8,7 @@ use native.Mathlib.Omega.{arith}
 use borrow.Author.Needs.{needs}
 use denote.Ref.{now}
 use lib.ListN.{length}
-use Rattle.run.specs.Run.{hasNews, onFrom, far}
+use Rattle.run.specs.Contracts.{hasNews, onFrom, far}
 use Rattle.refusals.proofs.Picks.{no}
 use Rattle.run.proofs.Turns.{on-over}
 use Rattle.run.proofs.run.hear_run.Statement.{statement}

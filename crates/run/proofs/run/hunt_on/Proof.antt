@@ -8,7 +8,7 @@ use denote.Ref.{now}
 use lib.ListN.{length}
 use Rattle.hearing.specs.declared.hearing.Heard.{Heard}
 use Rattle.run.specs.declared.run.Reach.{Reach}
-use Rattle.run.specs.Run.{gone}
+use Rattle.run.specs.Contracts.{gone}
 use Rattle.run.proofs.Turns.{hunts-one, hunts-all, hunts-head}
 use borrow.Author.Needs.{needs}
 use Rattle.run.proofs.run.hunt_on.Statement.{statement}

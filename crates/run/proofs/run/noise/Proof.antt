@@ -8,7 +8,7 @@ use borrow.Author.Needs.{needs}
 use denote.Ref.{now}
 use lib.ListN.{length, drop}
 use Rattle.hearing.specs.declared.hearing.Event.{Event}
-use Rattle.run.specs.Run.{hearFrom, skipped}
+use Rattle.run.specs.Contracts.{hearFrom, skipped}
 use Rattle.run.proofs.Turns.{noise-more}
 use Rattle.run.proofs.run.noise.Statement.{statement}
 use Rattle.run.proofs.run.noise.Tie as tie

@@ -11,7 +11,7 @@ use lib.ListN.{length, take, drop, set, getD, length-set, length-drop}
 use lib.Seq.{take-all}
 use Rattle.frame.specs.Bytes.{fold}
 use Rattle.frame.proofs.Folds.{fold-more}
-use Rattle.run.specs.Run.{kept}
+use Rattle.run.specs.Contracts.{kept}
 use Rattle.run.proofs.Turns.{kept-more, kept-rest}
 use Rattle.run.proofs.run.walk.Statement.{statement}
 use Rattle.run.proofs.run.walk.Tie as tie

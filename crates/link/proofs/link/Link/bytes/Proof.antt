@@ -5,7 +5,7 @@ use lib.ListN.{length}
 use denote.Ref.{now}
 use Rattle.rules.specs.Rules.{base}
 use Rattle.frame.specs.Bytes.{over}
-use Rattle.run.specs.Run.{Far, unheard}
+use Rattle.run.specs.Contracts.{Far, unheard}
 use Rattle.step.specs.declared.checks.Checked.the-variants.{Passes}
 use Rattle.step.proofs.Passed.{has-room}
 use Rattle.writing.proofs.Puts.{line-in, up-in}

@@ -1,4 +1,4 @@
--- What the parts of `count` promise each other: several bytes at once are those bytes one by one.
+-- What the parts of `count` promise each other: several bytes at once are those bytes one by one. A reader need not believe it.
 -- Assumes nothing.
 use Prim.Native.Nat.{ℕ, _≤_, _<_}
 use mathlib.Core.Path.{_≡_}

@@ -1,4 +1,4 @@
--- What a read may come to.
+-- What a read promises the loop over the input.
 -- Assumes nothing.
 use Prim.Native.Nat.{ℕ, _≤_, _<_}
 use Rattle.linecount.specs.declared.Got.{Got}

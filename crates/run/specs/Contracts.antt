@@ -1,4 +1,5 @@
--- How the code goes through a run of bytes: by hearing alone. That this is `runOut` is proved (proofs/Hears.antt of link).
+-- What the parts of a run promise each other, and what `hear_run` promises the link: how the bytes are heard, up to the first news. A reader need not
+-- believe it: that the link gives `runOut` by it is proved (proofs/Hears.antt of link).
 -- Assumes nothing.
 use Prim.Native.Nat.{ℕ, _+_, _-_, _≤_, _<_}
 use mathlib.Core.Path.{_≡_}
