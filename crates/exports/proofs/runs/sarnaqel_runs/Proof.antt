@@ -115,16 +115,12 @@ loop-less c =
 
 loop-again : tie.Need-loop-again Inv-loop μ-loop
 loop-again c =
-    let at-tale-of = c .before .before .before in
-    let at-bytes = at-tale-of .before .before .before .before .before .before in
-    let at-least = at-bytes .before .before .before .before in
-    let at-loop-test = at-least .before in
-    let at-loop = at-loop-test .before in
-    let start = at-loop .before .before .before .before .before in
+    let mid = c .before .before .before .before .before .before .before in
+    let at-loop = mid .before .before .before .before .before .before .before .before in
     let l = at-loop .loop in
-    let a = start .args in
+    let a = at-loop .before .before .before .before .before .args in
     let most = taken-left (now (a .line)) (now (a .up)) (a .most) (now (a .input)) (l .link) (l .line) (l .up) (l .sum) (l .at) _ _ _ _ _ _ _ _
-    (part-given (l .at) _ (a .most) (now (a .input)) (at-least .least .ensures)) (l .inv .1) (l .inv .2) (at-bytes .bytes .ensures) (at-tale-of .tale-of .ensures .0) (at-tale-of .tale-of .ensures .1) (c .before .before .mix .ensures) (c .before .mix2 .ensures) in (
+    (part-given (l .at) _ (a .most) (now (a .input)) (mid .before .before .before .before .before .before .least .ensures)) (l .inv .1) (l .inv .2) (mid .before .before .bytes .ensures) (c .before .before .before .tale-of .ensures .0) (c .before .before .before .tale-of .ensures .1) (c .before .before .mix .ensures) (c .before .mix2 .ensures) in (
       omega (arith, most),
       omega arith,
       omega arith,
@@ -132,8 +128,8 @@ loop-again c =
       omega (arith, most),
       l .inv .5
           ∙ runs-on (now (a .line)) (now (a .up)) (a .most) (now (a .input)) (l .link) (l .line) (l .up) (l .sum) (l .at) _ _ _ _ _ _ _ _
-          (part-given (l .at) _ (a .most) (now (a .input)) (at-least .least .ensures)) (l .inv .1) (l .inv .2) (at-bytes .bytes .ensures) (at-tale-of .tale-of .ensures .0) (at-tale-of .tale-of .ensures .1) (c .before .before .mix .ensures) (c .before .mix2 .ensures)
-          (l .inv .3) (at-loop-test .loop-test .taken) (omega arith) (c .if1 .left),
+          (part-given (l .at) _ (a .most) (now (a .input)) (mid .before .before .before .before .before .before .least .ensures)) (l .inv .1) (l .inv .2) (mid .before .before .bytes .ensures) (c .before .before .before .tale-of .ensures .0) (c .before .before .before .tale-of .ensures .1) (c .before .before .mix .ensures) (c .before .mix2 .ensures)
+          (l .inv .3) (mid .before .before .before .before .before .before .before .loop-test .taken) (omega arith) (c .if1 .left),
     )
 
 same-length-3 : tie.Need-same-length-3 Inv-loop μ-loop
