@@ -2,3 +2,4 @@ pub mod Shown
 pub mod Starred
 pub mod Computed
 pub mod Reach
+pub mod Machine

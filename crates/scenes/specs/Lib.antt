@@ -2,3 +2,4 @@ pub mod Scene
 pub mod Example
 pub mod Table
 pub mod Longest
+pub mod Machine

@@ -1,0 +1,121 @@
+-- The machine on one page: every row of both tables computes, and what a row shows of one number holds of all on its side of the edge.
+-- Assumes nothing.
+use Prim.Native.Nat.{ℕ, _+_, _-_, _≤_, _<_}
+use mathlib.Core.Path.{_≡_, refl}
+use mathlib.Core.Bool.{Bool}
+use native.Mathlib.Omega.{arith}
+use borrow.Author.Tests.{lt-ltb, le-ltb, eq-eqb, ne-eqb}
+use Rattle.rules.specs.Rules.{base}
+use Rattle.hearing.specs.Hearing.{heard, begun, more, ended, later, hearByte, hearTick}
+use Rattle.hearing.specs.declared.hearing.Partial.{Partial}
+use Rattle.hearing.specs.declared.hearing.Hearing.the-variants.{Hunting, Head, Body}
+use Rattle.hearing.specs.declared.hearing.End.the-variants.{BadSum, Reserved, Response}
+use Rattle.hearing.specs.declared.hearing.Event.the-variants.{Inside, Kept, Skipped, Ended, TickInside}
+use Rattle.report.specs.declared.Reception.the-variants as reception
+use Rattle.reception.specs.Said.{saying, saidOn}
+use Rattle.reception.specs.declared.said.Awaited.{Awaited}
+use Rattle.reception.specs.declared.said.Awaited.the-variants as awaited
+use Rattle.reception.specs.declared.said.Reply.the-variants as reply
+use Rattle.job.specs.Job.{nextCopy, still}
+use Rattle.job.specs.Ticks.{onTick}
+use Rattle.job.specs.declared.job.Asking.{Asking}
+use Rattle.job.specs.declared.job.Job.the-variants.{Waiting, BackingOff, Awaiting}
+use Rattle.sending.specs.Events.{respond, onEvent}
+use Rattle.link.specs.Out.{restartOut}
+use Rattle.scenes.specs.Machine.{AllRows, AllHear, idleRows, dueRows, waitingRows, backingOffRows, awaitingRows, huntingRows, headRows, bodyRows, JobTable, HearingTable, Starts}
+
+-- ---- the rows
+idle-rows : (size : ℕ) (a : Asking) (at k f : ℕ) → AllRows size (idleRows a at k f)
+idle-rows size a at k f = (refl, (refl, (refl, (refl, (refl, (refl, (refl, (refl, (refl, (refl, (refl, (refl, (refl, (refl, (refl, (refl, (refl, tt)))))))))))))))))
+
+due-rows : (size : ℕ) (a b : Asking) (c n at k f : ℕ) (hunting : Bool) → AllRows size (dueRows a b c n at k f hunting)
+due-rows size a b c n at k f hunting = (refl, (refl, (refl, (refl, (refl, (refl, (refl, (refl, (refl, (refl, (refl, (refl, (refl, (refl, (refl, (refl, (refl, (refl, (refl, (refl, (refl, tt)))))))))))))))))))))
+
+waiting-rows : (size : ℕ) (a b : Asking) (c n e at k f : ℕ) (hunting : Bool) → AllRows size (waitingRows a b c n e at k f hunting)
+waiting-rows size a b c n e at k f hunting = (refl, (refl, (refl, (refl, (refl, (refl, (refl, (refl, (refl, (refl, (refl, (refl, (refl, (refl, (refl, (refl, (refl, (refl, (refl, (refl, (refl, (refl, (refl, (refl, (refl, (refl, (refl, (refl, (refl, (refl, (refl, (refl, (refl, (refl, (refl, (refl, (refl, (refl, (refl, (refl, (refl, tt)))))))))))))))))))))))))))))))))))))))))
+
+backing-off-rows : (size : ℕ) (a b : Asking) (c n l at k f : ℕ) (hunting : Bool) → AllRows size (backingOffRows a b c n l at k f hunting)
+backing-off-rows size a b c n l at k f hunting = (refl, (refl, (refl, (refl, (refl, (refl, (refl, (refl, (refl, (refl, (refl, (refl, (refl, (refl, (refl, (refl, (refl, (refl, (refl, (refl, (refl, (refl, (refl, tt)))))))))))))))))))))))
+
+awaiting-rows : (size : ℕ) (b : Asking) (c n e at k : ℕ) (hunting : Bool) → AllRows size (awaitingRows b c n e at k hunting)
+awaiting-rows size b c n e at k hunting = (refl, (refl, (refl, (refl, (refl, (refl, (refl, (refl, (refl, (refl, (refl, (refl, (refl, (refl, (refl, (refl, (refl, (refl, (refl, (refl, tt))))))))))))))))))))
+
+pub job-table : (size : ℕ) (a b : Asking) (c n e l at k f : ℕ) (hunting : Bool) → JobTable size a b c n e l at k f hunting
+job-table size a b c n e l at k f hunting =
+    (idle-rows size a at k f, (due-rows size a b c n at k f hunting, (waiting-rows size a b c n e at k f hunting, (backing-off-rows size a b c n l at k f hunting, awaiting-rows size b c n e at k hunting))))
+
+hunting-rows : (w : Awaited) (bad : ℕ) → AllHear (huntingRows w bad)
+unfolding restartOut
+hunting-rows w bad = (refl, (refl, (refl, (refl, (refl, (refl, (refl, (refl, (refl, (refl, (refl, (refl, (refl, (refl, (refl, tt)))))))))))))))
+
+head-rows : (w : Awaited) (bad c : ℕ) → AllHear (headRows w bad c)
+unfolding restartOut
+head-rows w bad c = (refl, (refl, (refl, (refl, (refl, (refl, (refl, (refl, tt))))))))
+
+body-rows : (w : Awaited) (bad c k at s t m b : ℕ) → AllHear (bodyRows w bad c k at s t m b)
+unfolding restartOut
+body-rows w bad c k at s t m b = (refl, (refl, (refl, (refl, (refl, (refl, (refl, (refl, (refl, (refl, (refl, (refl, (refl, (refl, (refl, tt)))))))))))))))
+
+pub hearing-table : (w : Awaited) (bad c k at s t m b : ℕ) → HearingTable w bad c k at s t m b
+hearing-table w bad c k at s t m b = (hunting-rows w bad, (head-rows w bad c, body-rows w bad c k at s t m b))
+
+pub starts : Starts
+starts = (refl, refl)
+
+-- ---- between the rows of the job
+-- "copy n + 1": no link from opening is due or backing off with more than 3 copies
+pub copy-next : (n : ℕ) → n < 4 → nextCopy n ≡ n + 1
+copy-next n h = rw (lt-ltb n 4 h)
+
+-- "a tick up to": it counts, and does nothing else; an abort is a tick while hunting
+pub wait-counts : (size : ℕ) (hunting : Bool) (a : Asking) (n e : ℕ) → e + 1 < 1_600 → onTick base size hunting (Waiting a n e) ≡ still (Waiting a n (e + 1))
+wait-counts size hunting a n e h = rw (lt-ltb (e + 1) 1_600 h)
+
+pub back-off-counts : (size : ℕ) (hunting : Bool) (a : Asking) (n l : ℕ) → 1 < l → onTick base size hunting (BackingOff a n l) ≡ still (BackingOff a n (l - 1))
+back-off-counts size hunting a n l h = rw (lt-ltb 1 l h)
+
+pub response-counts : (size : ℕ) (hunting : Bool) (c n e : ℕ) → e + 1 < 5_000 → onTick base size hunting (Awaiting c n e) ≡ still (Awaiting c n (e + 1))
+response-counts size hunting c n e h = rw (lt-ltb (e + 1) 5_000 h)
+
+-- "the response with its Command", "another response": any two Commands
+pub its-response : (size c n e k : ℕ) → onEvent base size (Ended (Response k c)) (Awaiting c n e) ≡ respond (Awaiting c n e)
+its-response size c n e k = rw (eq-eqb c c refl)
+
+pub another-response : (size c n e k f : ℕ) → (f ≡ c → ⊥) → onEvent base size (Ended (Response k f)) (Awaiting c n e) ≡ still (Awaiting c n e)
+another-response size c n e k f h = rw (ne-eqb f c h)
+
+-- ---- between the rows of hearing
+pub head-counts : (c : ℕ) → c + 1 < 1_501 → hearTick (Head c) ≡ heard (Head (c + 1)) TickInside
+head-counts c h = rw (lt-ltb (c + 1) 1_501 h)
+
+pub body-counts : (p : Partial) → p .clock + 1 < 1_501 → hearTick (Body p) ≡ heard (Body (later p)) TickInside
+body-counts p h = rw (lt-ltb (p .clock + 1) 1_501 h)
+
+-- "any other byte"
+pub other-skipped : (b : ℕ) → (b ≡ 0x01 → ⊥) → (b ≡ 0x06 → ⊥) → (b ≡ 0x15 → ⊥) → (b ≡ 0x18 → ⊥) → hearByte b Hunting ≡ heard Hunting Skipped
+other-skipped b h₁ h₂ h₃ h₄ = rw (ne-eqb b 0x01 h₁, ne-eqb b 0x06 h₂, ne-eqb b 0x15 h₃, ne-eqb b 0x18 h₄)
+
+-- "Length 03 to FF"
+pub length-begins : (c b : ℕ) → 3 ≤ b → hearByte b (Head c) ≡ heard (Body (begun c b)) Inside
+length-begins c b h = rw (le-ltb b 3 h)
+
+-- "a body byte", "the right Checksum", "a wrong Checksum": any frame
+pub body-byte : (p : Partial) (b : ℕ) → p .at < p .size → hearByte b (Body p) ≡ heard (Body (more p b)) (Kept (p .at))
+body-byte p b h = rw (lt-ltb (p .at) (p .size) h)
+
+pub right-sum : (p : Partial) → p .size ≤ p .at → hearByte (p .sum) (Body p) ≡ heard Hunting (Ended (ended p))
+right-sum p h = rw (le-ltb (p .at) (p .size) h, eq-eqb (p .sum) (p .sum) refl)
+
+pub wrong-sum : (p : Partial) (b : ℕ) → p .size ≤ p .at → (b ≡ p .sum → ⊥) → hearByte b (Body p) ≡ heard Hunting (Ended BadSum)
+wrong-sum p b h k = rw (le-ltb (p .at) (p .size) h, ne-eqb b (p .sum) k)
+
+-- "Type 02 to FF"
+pub type-reserved : (p : Partial) → 2 ≤ p .kind → ended p ≡ Reserved
+type-reserved p h = rw (ne-eqb (p .kind) 0 (λ z. omega arith), ne-eqb (p .kind) 1 (λ z. omega arith))
+
+-- "awaited", "not awaited"
+pub awaited-frame : (k c : ℕ) → saidOn (Ended (Response k c)) (awaited.Response c) ≡ saying reception.Frame reply.Ack k
+awaited-frame k c = rw (eq-eqb c c refl)
+
+pub not-awaited-stray : (k f c : ℕ) → (f ≡ c → ⊥) → saidOn (Ended (Response k f)) (awaited.Response c) ≡ saying reception.StrayResponse reply.Ack k
+not-awaited-stray k f c h = rw (ne-eqb f c h)
