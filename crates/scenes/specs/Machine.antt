@@ -49,12 +49,12 @@ use Rattle.link.specs.Out.{restartOut}
 use Rattle.link.specs.declared.link.Link.{Link}
 
 -- ---- the job: what comes to it, and what it does
-pub data Comes : Type 0 where
+pub data JobEvent : Type 0 where
   -- what hearing made of a byte or a tick
-  on : Event → Comes
+  on : Event → JobEvent
   -- a send or session that no other check refuses, while hunting or inside a frame
-  opens : (hunting : Bool) → Asking → Comes
-  restarts : Comes
+  opens : (hunting : Bool) → Asking → JobEvent
+  restarts : JobEvent
 
 pub data Does : Type 0 where
   -- the next job, the three parts that it has a say in, and whether a copy goes out
@@ -65,13 +65,13 @@ abbrev pub acts : Act → Does
 acts x = does (x .job) (x .sending) (x .session) (x .reset) (x .copy)
 
 -- by the definitions that the link's promises cite, with a held frame of so many bytes
-abbrev pub jobDoes : ℕ → Comes → Job → Does
+abbrev pub jobDoes : ℕ → JobEvent → Job → Does
 jobDoes size (on e) j = acts (onEvent base size e j)
 jobDoes size (opens hunting a) j = pick (isOpen j) busy (acts (start hunting a 0))
 jobDoes size restarts j = acts (onRestart j)
 
 pub data JobRow : Type 0 where
-  row : Job → Comes → Does → JobRow
+  row : Job → JobEvent → Does → JobRow
 
 abbrev pub RowHolds : ℕ → JobRow → Type 0
 RowHolds size (row j x d) = jobDoes size x j ≡ d
@@ -268,8 +268,8 @@ AllHear [] = Unit {0}
 AllHear (r ∷ rs) = HearHolds r × AllHear rs
 
 -- a half-received frame: its clock, how many body bytes it has and how many have come, the Checksum that they give so far, Type and Command
-abbrev pub part : (clock size at sum kind command : ℕ) → Partial
-part clock size at sum kind command = record { clock = clock; size = size; at = at; sum = sum; kind = kind; command = command }
+abbrev pub partial : (clock size at sum kind command : ℕ) → Partial
+partial clock size at sum kind command = record { clock = clock; size = size; at = at; sum = sum; kind = kind; command = command }
 
 -- ---- hearing's rows, by state
 abbrev pub huntingRows : Awaited → (bad : ℕ) → List HearingRow
@@ -296,8 +296,8 @@ headRows w bad c =
     hear (Head c) (byte 0x00) w bad (hears Hunting (event (Ended BadLength)) reception.BadLength reply.Silent 0 bad reset.Nothing)
     ∷ hear (Head c) (byte 0x01) w bad (hears Hunting (event (Ended BadLength)) reception.BadLength reply.Silent 0 bad reset.Nothing)
     ∷ hear (Head c) (byte 0x02) w bad (hears Hunting (event (Ended BadLength)) reception.BadLength reply.Silent 0 bad reset.Nothing)
-    ∷ hear (Head c) (byte 0x03) w bad (hears (Body (part c 2 0 0xFC 0 0)) (event Inside) reception.Nothing reply.Silent 0 bad reset.Nothing)
-    ∷ hear (Head c) (byte 0xFF) w bad (hears (Body (part c 254 0 0x00 0 0)) (event Inside) reception.Nothing reply.Silent 0 bad reset.Nothing)
+    ∷ hear (Head c) (byte 0x03) w bad (hears (Body (partial c 2 0 0xFC 0 0)) (event Inside) reception.Nothing reply.Silent 0 bad reset.Nothing)
+    ∷ hear (Head c) (byte 0xFF) w bad (hears (Body (partial c 254 0 0x00 0 0)) (event Inside) reception.Nothing reply.Silent 0 bad reset.Nothing)
     ∷ hear (Head 1_499) tick w bad (hears (Head 1_500) (event TickInside) reception.Nothing reply.Silent 0 bad reset.Nothing)
     ∷ hear (Head 1_500) tick w bad (hears Hunting (event Aborted) reception.Abort reply.Silent 0 bad reset.Nothing)
     ∷ hear (Head c) restart w bad (hears Hunting fresh reception.Nothing reply.Nak 0 0 reset.Nothing)
@@ -305,21 +305,21 @@ headRows w bad c =
 
 abbrev pub bodyRows : Awaited → (bad c k at s t m b : ℕ) → List HearingRow
 bodyRows w bad c k at s t m b =
-    hear (Body (part c 2 0 s t m)) (byte b) w bad (hears (Body (part c 2 1 (bitXor s b) b m)) (event (Kept 0)) reception.Nothing reply.Silent 0 bad reset.Nothing)
-    ∷ hear (Body (part c 2 1 s t m)) (byte b) w bad (hears (Body (part c 2 2 (bitXor s b) t b)) (event (Kept 1)) reception.Nothing reply.Silent 0 bad reset.Nothing)
-    ∷ hear (Body (part c 254 253 s t m)) (byte b) w bad (hears (Body (part c 254 254 (bitXor s b) t m)) (event (Kept 253)) reception.Nothing reply.Silent 0 bad reset.Nothing)
-    ∷ hear (Body (part c 2 2 0xFB 0x00 m)) (byte 0xFB) w bad (hears Hunting (event (Ended (Request 2))) reception.Frame reply.Ack 2 0 reset.Nothing)
-    ∷ hear (Body (part c 2 2 0xFA 0x01 0x07)) (byte 0xFA) (awaited.Response 0x07) bad (hears Hunting (event (Ended (Response 2 0x07))) reception.Frame reply.Ack 2 0 reset.Nothing)
-    ∷ hear (Body (part c 2 2 0xFA 0x01 0x07)) (byte 0xFA) (awaited.Response 0x08) bad (hears Hunting (event (Ended (Response 2 0x07))) reception.StrayResponse reply.Ack 2 0 reset.Nothing)
-    ∷ hear (Body (part c 2 2 0xFA 0x01 0x07)) (byte 0xFA) awaited.Nothing bad (hears Hunting (event (Ended (Response 2 0x07))) reception.StrayResponse reply.Ack 2 0 reset.Nothing)
-    ∷ hear (Body (part c 2 2 0xF9 0x02 m)) (byte 0xF9) w bad (hears Hunting (event (Ended Reserved)) reception.Reserved reply.Ack 0 0 reset.Nothing)
-    ∷ hear (Body (part c 2 2 0x04 0xFF m)) (byte 0x04) w bad (hears Hunting (event (Ended Reserved)) reception.Reserved reply.Ack 0 0 reset.Nothing)
-    ∷ hear (Body (part c 2 2 0xFB t m)) (byte 0xFA) w 0 (hears Hunting (event (Ended BadSum)) reception.BadSum reply.Nak 0 1 reset.Nothing)
-    ∷ hear (Body (part c 2 2 0xFB t m)) (byte 0xFA) w 1 (hears Hunting (event (Ended BadSum)) reception.BadSum reply.Nak 0 2 reset.Nothing)
-    ∷ hear (Body (part c 2 2 0xFB t m)) (byte 0xFA) w 2 (hears Hunting (event (Ended BadSum)) reception.BadSum reply.Nak 0 0 reset.Sums)
-    ∷ hear (Body (part 1_499 k at s t m)) tick w bad (hears (Body (part 1_500 k at s t m)) (event TickInside) reception.Nothing reply.Silent 0 bad reset.Nothing)
-    ∷ hear (Body (part 1_500 k at s t m)) tick w bad (hears Hunting (event Aborted) reception.Abort reply.Silent 0 bad reset.Nothing)
-    ∷ hear (Body (part c k at s t m)) restart w bad (hears Hunting fresh reception.Nothing reply.Nak 0 0 reset.Nothing)
+    hear (Body (partial c 2 0 s t m)) (byte b) w bad (hears (Body (partial c 2 1 (bitXor s b) b m)) (event (Kept 0)) reception.Nothing reply.Silent 0 bad reset.Nothing)
+    ∷ hear (Body (partial c 2 1 s t m)) (byte b) w bad (hears (Body (partial c 2 2 (bitXor s b) t b)) (event (Kept 1)) reception.Nothing reply.Silent 0 bad reset.Nothing)
+    ∷ hear (Body (partial c 254 253 s t m)) (byte b) w bad (hears (Body (partial c 254 254 (bitXor s b) t m)) (event (Kept 253)) reception.Nothing reply.Silent 0 bad reset.Nothing)
+    ∷ hear (Body (partial c 2 2 0xFB 0x00 m)) (byte 0xFB) w bad (hears Hunting (event (Ended (Request 2))) reception.Frame reply.Ack 2 0 reset.Nothing)
+    ∷ hear (Body (partial c 2 2 0xFA 0x01 0x07)) (byte 0xFA) (awaited.Response 0x07) bad (hears Hunting (event (Ended (Response 2 0x07))) reception.Frame reply.Ack 2 0 reset.Nothing)
+    ∷ hear (Body (partial c 2 2 0xFA 0x01 0x07)) (byte 0xFA) (awaited.Response 0x08) bad (hears Hunting (event (Ended (Response 2 0x07))) reception.StrayResponse reply.Ack 2 0 reset.Nothing)
+    ∷ hear (Body (partial c 2 2 0xFA 0x01 0x07)) (byte 0xFA) awaited.Nothing bad (hears Hunting (event (Ended (Response 2 0x07))) reception.StrayResponse reply.Ack 2 0 reset.Nothing)
+    ∷ hear (Body (partial c 2 2 0xF9 0x02 m)) (byte 0xF9) w bad (hears Hunting (event (Ended Reserved)) reception.Reserved reply.Ack 0 0 reset.Nothing)
+    ∷ hear (Body (partial c 2 2 0x04 0xFF m)) (byte 0x04) w bad (hears Hunting (event (Ended Reserved)) reception.Reserved reply.Ack 0 0 reset.Nothing)
+    ∷ hear (Body (partial c 2 2 0xFB t m)) (byte 0xFA) w 0 (hears Hunting (event (Ended BadSum)) reception.BadSum reply.Nak 0 1 reset.Nothing)
+    ∷ hear (Body (partial c 2 2 0xFB t m)) (byte 0xFA) w 1 (hears Hunting (event (Ended BadSum)) reception.BadSum reply.Nak 0 2 reset.Nothing)
+    ∷ hear (Body (partial c 2 2 0xFB t m)) (byte 0xFA) w 2 (hears Hunting (event (Ended BadSum)) reception.BadSum reply.Nak 0 0 reset.Sums)
+    ∷ hear (Body (partial 1_499 k at s t m)) tick w bad (hears (Body (partial 1_500 k at s t m)) (event TickInside) reception.Nothing reply.Silent 0 bad reset.Nothing)
+    ∷ hear (Body (partial 1_500 k at s t m)) tick w bad (hears Hunting (event Aborted) reception.Abort reply.Silent 0 bad reset.Nothing)
+    ∷ hear (Body (partial c k at s t m)) restart w bad (hears Hunting fresh reception.Nothing reply.Nak 0 0 reset.Nothing)
     ∷ []
 
 -- ---- a fresh link
