@@ -15,6 +15,10 @@ use Rattle.capabilities.specs.declared.Capabilities.the-variants as capa
 use Rattle.capabilities.specs.declared.Support.{Support}
 use Rattle.capabilities.specs.declared.Support.the-variants as support
 
+-- command 07
+abbrev pub CAPABILITIES : ℕ
+CAPABILITIES = 0x07
+
 -- a number of two bytes, most significant first
 abbrev pub word : ℕ → ℕ → ℕ
 word high low = high * 256 + low
@@ -25,7 +29,7 @@ functionMask body = drop 10 body
 
 abbrev pub isCapabilities : List ℕ → Bool
 isCapabilities body =
-    pick (isResponse body 7)
+    pick (isResponse body CAPABILITIES)
     (pick (ltb (length body) 10) false
     (pick (ltb 42 (length body)) false
     (pick (isMarked (functionMask body) 256) false true)))

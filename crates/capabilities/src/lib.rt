@@ -9,6 +9,9 @@ ghost use Rattle.masks.specs.Mask.{onesIn};
 ghost use Rattle.capabilities.specs.Capabilities.{word, isCapabilities, capabilitiesOf, readCapabilities, supports};
 ghost use Rattle.capabilities.specs.Contracts.{OfCapabilities};
 
+// The command.
+const CAPABILITIES: u8 = 0x07;
+
 pub enum Capabilities {
     Refused(Refusal),
     // The last is the number of supported functions.
@@ -53,7 +56,7 @@ fn ones_in(mask: &[u8]) -> u16
 fn is_capabilities(body: &[u8]) -> bool
     ensures { λ r. ⌜ r ≡ isCapabilities (now (body .entry)) ⌝ }
 {
-    if !is_response(body, 7) {
+    if !is_response(body, CAPABILITIES) {
         return false;
     }
     if body.len() < 10 {

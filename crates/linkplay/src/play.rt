@@ -1,6 +1,8 @@
 // The play: the script is read, cut into lines, and each line is carried out.
 use crate::link_calls::Player;
 use crate::link_calls::on_link;
+use frame::LINE_ROOM;
+use frame::MAX_BODY;
 use libc::STDIN_FILENO;
 use link::Link;
 use script::Order;
@@ -16,8 +18,8 @@ fn opened() -> Player {
     Player {
         link: Link::open(),
         ticks: 0,
-        line: 258,
-        up: 254,
+        line: LINE_ROOM,
+        up: MAX_BODY,
         waiting: 0,
         kept: 0,
         is_over: false,

@@ -15,10 +15,14 @@ use Rattle.masks.specs.Mask.{marked}
 use Rattle.nodes.specs.declared.NodeList.{NodeList}
 use Rattle.nodes.specs.declared.NodeList.the-variants.{Refused, Answer}
 
+-- command 02
+abbrev pub NODE_LIST : ℕ
+NODE_LIST = 0x02
+
 -- with Type and Command 36 bytes, or 7 with no mask
 abbrev pub isNodeList : List ℕ → Bool
 isNodeList body =
-    pick (isResponse body 2)
+    pick (isResponse body NODE_LIST)
     (pick (eqb (length body) 36)
     (eqb (getD body 4 0) 29)
     (pick (eqb (length body) 7)

@@ -8,6 +8,9 @@ ghost use lib.ListN.{length};
 ghost use Rattle.nodes.specs.Nodes.{isNodeList, ReadNodes};
 ghost use Rattle.nodes.specs.Contracts.{OfNodeList, Fill, ListNodes};
 
+// The command.
+const NODE_LIST: u8 = 0x02;
+
 pub enum NodeList {
     Refused(Refusal),
     // The nodes are the first `count` bytes of the lent list.
@@ -24,7 +27,7 @@ pub enum NodeList {
 fn is_node_list(body: &[u8]) -> bool
     ensures { λ r. ⌜ r ≡ isNodeList (now (body .entry)) ⌝ }
 {
-    if !is_response(body, 2) {
+    if !is_response(body, NODE_LIST) {
         return false;
     }
     if body.len() == 36 {

@@ -1,4 +1,4 @@
--- Bytes that read as a frame of these parts, said place by place: both `readingOf` and `frameOf` are led back to it.
+-- Bytes that read as a frame of these parts, said place by place: both `read` and `frameOf` are led back to it.
 -- Assumes nothing.
 use mathlib.Core.Path.{_≡_, refl, sym, ap, _∙_}
 use mathlib.Core.List.{List, [], _∷_, _++_}
@@ -28,7 +28,7 @@ pub record Whole (bytes : List ℕ) (kind command n : ℕ) : Type 0 where
 no : {k : Refusal} {kind command n : ℕ} → Refused k ≡ Parts kind command n → ⊥
 no e = let z : _≡_ {A = ℕ} 0 1 = cc in omega arith
 
--- what the tests of `readingOf` say, gathered
+-- what the tests of `read` say, gathered
 whole-of : (bytes : List ℕ) (kind command n : ℕ) → getD bytes 0 0 ≡ 1
     → 3 ≤ getD bytes 1 0 → getD bytes 1 0 + 2 ≤ length bytes → length bytes ≤ getD bytes 1 0 + 2
     → checksum (take (getD bytes 1 0) (drop 1 bytes)) ≡ getD bytes (getD bytes 1 0 + 1) 0 → getD bytes 2 0 ≤ 1

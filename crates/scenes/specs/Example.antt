@@ -4,7 +4,7 @@ use Prim.Native.Nat.{ℕ}
 use mathlib.Core.Path.{_≡_}
 use mathlib.Core.List.{List, [], _∷_}
 use lib.ListN.{length}
-use Rattle.frame.specs.Frame.{frameOf}
+use Rattle.frame.specs.Frame.{frameOf, REQ}
 use Rattle.frame.specs.Builder as builder
 use Rattle.frame.specs.declared.builder.Built.{Built}
 use Rattle.reading.specs.Reader as reader
@@ -13,7 +13,7 @@ use Rattle.units.specs.Units.{ticksOf}
 use Rattle.units.specs.declared.Millis.{Millis}
 use Rattle.rules.specs.Rules.{base}
 use Rattle.nodes.specs.Nodes as nodes
-use Rattle.timeouts.specs.Timeouts.{ticksFor, setOf}
+use Rattle.timeouts.specs.Timeouts.{SET_TIMEOUTS, ticksFor, setOf}
 use Rattle.nodes.specs.declared.NodeList.{NodeList}
 use Rattle.history.specs.Perform.{Call}
 use Rattle.scenes.specs.Scene.{Seen, seen}
@@ -44,7 +44,7 @@ answerTo (build kind command ps lent) =
     built (builder.builtOf kind (length ps) (length lent)) (builder.leftBy (builder.builtOf kind (length ps) (length lent)) (frameOf kind command ps) lent)
 answerTo (setTimeouts rxack rxbyte lent) =
     built (setOf (ticksOf rxack) (ticksOf rxbyte) (length lent))
-    (builder.leftBy (setOf (ticksOf rxack) (ticksOf rxbyte) (length lent)) (frameOf 0 6 (ticksFor (ticksOf rxack) (ticksOf rxbyte))) lent)
+    (builder.leftBy (setOf (ticksOf rxack) (ticksOf rxbyte) (length lent)) (frameOf REQ SET_TIMEOUTS (ticksFor (ticksOf rxack) (ticksOf rxbyte))) lent)
 answerTo (read bytes) = reading (reader.read bytes)
 answerTo (list body lent) =
     listed (nodes.nodeListOf body (length lent)) (nodes.listLeft (nodes.nodeListOf body (length lent)) (nodes.nodesOf body) lent)

@@ -11,6 +11,7 @@ use crate::printing::put_named;
 use crate::printing::put_refused;
 use crate::verb::FrameVerb;
 use frame::Built;
+use frame::MAX_FRAME;
 use reading::Reading;
 use refusals::Refusal;
 
@@ -86,7 +87,7 @@ fn read(bytes: &[u8], out: &mut [u8], waiting: usize) -> usize {
 // The size of the buffer that a call is lent: the one that its order names, if it names one.
 fn room_of(verb: FrameVerb, size: usize) -> usize {
     match verb {
-        FrameVerb::Build => 257,
+        FrameVerb::Build => MAX_FRAME,
         FrameVerb::BuildRoom => size,
         FrameVerb::Read => 0,
     }

@@ -8,7 +8,7 @@ use mathlib.Core.List.{List, [], _∷_}
 use lib.Dec.{eqb}
 use lib.ListN.{length, getD}
 use Rattle.refusals.specs.Pick.{pick}
-use Rattle.frame.specs.Frame.{frameOf}
+use Rattle.frame.specs.Frame.{frameOf, REQ}
 use Rattle.frame.specs.Builder.{builtOf, leftBy}
 use Rattle.refusals.specs.Refusals.{numberOf}
 use Rattle.refusals.specs.declared.Refusal.the-variants as refusal
@@ -21,6 +21,10 @@ use Rattle.units.specs.declared.Converted.the-variants as converted
 use Rattle.masks.specs.Response.{isResponse}
 use Rattle.timeouts.specs.declared.OldTimeouts.{OldTimeouts}
 use Rattle.timeouts.specs.declared.OldTimeouts.the-variants as old
+
+-- command 06
+abbrev pub SET_TIMEOUTS : ℕ
+SET_TIMEOUTS = 0x06
 
 -- the two parameters, RXACK before RXBYTE
 abbrev pub ticksFor : Converted → Converted → List ℕ
@@ -39,11 +43,11 @@ pub record SetTimeouts (rxack rxbyte : Millis) (lent : List ℕ) (r : Built) (le
   pub left : lent′
       ≡ leftBy
       (setOf (ticksOf rxack) (ticksOf rxbyte) (length lent))
-      (frameOf 0 6 (ticksFor (ticksOf rxack) (ticksOf rxbyte)))
+      (frameOf REQ SET_TIMEOUTS (ticksFor (ticksOf rxack) (ticksOf rxbyte)))
       lent
 
 abbrev pub isOldTimeouts : List ℕ → Bool
-isOldTimeouts body = pick (isResponse body 6) (eqb (length body) 4) false
+isOldTimeouts body = pick (isResponse body SET_TIMEOUTS) (eqb (length body) 4) false
 
 -- a parameter, in ticks of 10 ms
 abbrev pub timeAt : List ℕ → ℕ → Millis

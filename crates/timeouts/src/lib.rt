@@ -1,5 +1,6 @@
 // Set Timeouts, command 06, and its RES (document 01, section 8; 002, 7.5).
 use frame::Built;
+use frame::REQ;
 use frame::build;
 use masks::is_response;
 use refusals::Refusal;
@@ -10,6 +11,9 @@ use units::millis_of;
 use units::ticks_of;
 ghost use mathlib.Core.Path.{_≡_};
 ghost use Rattle.timeouts.specs.Timeouts.{SetTimeouts, isOldTimeouts, readTimeouts};
+
+// The command.
+const SET_TIMEOUTS: u8 = 0x06;
 
 pub enum OldTimeouts {
     Refused(Refusal),
@@ -27,14 +31,14 @@ pub fn set_timeouts(rxack: Millis, rxbyte: Millis, lent: &mut [u8]) -> Built
         return Built::Refused(Refusal::Range);
     };
     let parameters = [ack.0, byte.0];
-    build(0, 6, &parameters, lent)
+    build(REQ, SET_TIMEOUTS, &parameters, lent)
 }
 
 // Whether the body is of the layout.
 fn is_old_timeouts(body: &[u8]) -> bool
     ensures { λ r. ⌜ r ≡ isOldTimeouts (now (body .entry)) ⌝ }
 {
-    if !is_response(body, 6) {
+    if !is_response(body, SET_TIMEOUTS) {
         return false;
     }
     body.len() == 4

@@ -1,4 +1,4 @@
--- `answer` meets its contract: the ones summed are the number of supported functions.
+-- `capabilities_of` meets its contract: the ones summed are the number of supported functions.
 -- Assumes nothing.
 use mathlib.Core.Path.{_≡_, ap, _∙_}
 use Prim.Native.Nat.{_≤_}

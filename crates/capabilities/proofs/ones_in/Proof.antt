@@ -1,4 +1,4 @@
--- `ones` meets its contract. The invariant: what is counted, and the ones of what is left, make the ones of the mask.
+-- `ones_in` meets its contract. The invariant: what is counted, and the ones of what is left, make the ones of the mask.
 -- Assumes nothing.
 use mathlib.Core.Path.{_≡_, sym, ap, _∙_}
 use Prim.Native.Nat.{ℕ, _+_, _*_, _-_, _≤_}

@@ -1,4 +1,4 @@
--- `reception::hearing::ended` meets its contract.
+-- `hearing::hearing::ended` meets its contract.
 -- Assumes nothing.
 use borrow.Author.Tests.{eq-eqb, ne-eqb}
 use Rattle.hearing.proofs.hearing.ended.Statement.{statement}

@@ -1,4 +1,4 @@
--- `reception::hearing::followed` meets its contract.
+-- `hearing::hearing::followed` meets its contract.
 -- Assumes nothing.
 use borrow.Author.Tests.{eq-eqb, ne-eqb, lt-ltb, le-ltb}
 use borrow.Author.Needs.{needs}

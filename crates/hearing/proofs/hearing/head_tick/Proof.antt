@@ -1,4 +1,4 @@
--- `reception::hearing::head_tick` meets its contract.
+-- `hearing::hearing::head_tick` meets its contract.
 -- Assumes nothing.
 use borrow.Author.Tests.{lt-ltb, le-ltb}
 use native.Mathlib.Omega.{arith}

@@ -1,4 +1,4 @@
--- `reception::hearing::hear_byte` meets its contract.
+-- `hearing::hearing::hear_byte` meets its contract.
 -- Assumes nothing.
 use borrow.Author.Needs.{needs}
 use Rattle.hearing.proofs.hearing.hear_byte.Statement.{statement}

@@ -1,4 +1,4 @@
--- `reception::hearing::hunted` meets its contract.
+-- `hearing::hearing::hunted` meets its contract.
 -- Assumes nothing.
 use borrow.Author.Tests.{eq-eqb, ne-eqb}
 use Rattle.hearing.proofs.hearing.hunted.Statement.{statement}

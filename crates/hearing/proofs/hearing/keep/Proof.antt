@@ -1,4 +1,4 @@
--- `reception::hearing::keep` meets its contract.
+-- `hearing::hearing::keep` meets its contract.
 -- Assumes nothing.
 use borrow.Author.Needs.{needs}
 use Rattle.hearing.proofs.hearing.keep.Statement.{statement}

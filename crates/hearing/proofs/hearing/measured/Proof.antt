@@ -1,4 +1,4 @@
--- `reception::hearing::measured` meets its contract.
+-- `hearing::hearing::measured` meets its contract.
 -- Assumes nothing.
 use borrow.Author.Tests.{lt-ltb, le-ltb}
 use borrow.Author.Needs.{needs}

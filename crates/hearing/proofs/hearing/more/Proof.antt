@@ -1,4 +1,4 @@
--- `reception::hearing::more` meets its contract.
+-- `hearing::hearing::more` meets its contract.
 -- Assumes nothing.
 use borrow.Author.Needs.{needs}
 use Rattle.hearing.proofs.hearing.more.Statement.{statement}

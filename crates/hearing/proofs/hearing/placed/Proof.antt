@@ -1,4 +1,4 @@
--- `reception::hearing::placed` meets its contract.
+-- `hearing::hearing::placed` meets its contract.
 -- Assumes nothing.
 use borrow.Author.Tests.{eq-eqb, ne-eqb}
 use Rattle.hearing.proofs.hearing.placed.Statement.{statement}

@@ -1,4 +1,4 @@
--- `reception::hearing::store` meets its contract.
+-- `hearing::hearing::store` meets its contract.
 -- Assumes nothing.
 use mathlib.Core.Path.{sym}
 use native.Mathlib.Omega.{arith}
