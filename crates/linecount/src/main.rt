@@ -4,7 +4,6 @@ use libc::STDIN_FILENO;
 use libc::STDOUT_FILENO;
 use tally::Tally;
 ghost use Rattle.linecount.specs.Contracts.{Within};
-ghost use Prim.Native.Nat.{_≤_};
 ghost use lib.ListN.{length};
 
 // The most bytes that are counted.

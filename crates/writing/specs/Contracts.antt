@@ -11,6 +11,7 @@ use Rattle.frame.specs.Bytes.{over}
 use Rattle.refusals.specs.Pick.{pick}
 use Rattle.reception.specs.declared.said.Reply.{Reply}
 use Rattle.frame.specs.Frame.{MAX_FRAME}
+use Rattle.reception.specs.Said.{replyBytes}
 use Rattle.writing.specs.Writing.{lineBytes}
 
 -- bytes written over the front of a lent buffer, and how many
@@ -29,6 +30,9 @@ abbrev pub bodyFits : List ℕ → List ℕ → Bool
 bodyFits body up = pick (ltb (length up) (length body)) false true
 
 -- what goes on the line and what is handed up: all of it where there is room, else nothing
+pub record PutReply (reply : Reply) (line : List ℕ) (r : ℕ) (line′ : List ℕ) : Type 0 where
+  pub put : Put (pick (byteFits line) (replyBytes reply) []) line r line′
+
 pub record PutLine (reply : Reply) (copy : Bool) (size : ℕ) (frame line : List ℕ) (r : ℕ) (line′ : List ℕ) : Type 0 where
   pub put : Put (pick (copyFits frame line) (lineBytes reply copy size frame) []) line r line′
 

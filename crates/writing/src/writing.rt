@@ -4,15 +4,11 @@ use frame::MAX_FRAME;
 use frame::NAK;
 use reception::Reply;
 use step::Outcome;
-ghost use mathlib.Core.Path.{_≡_};
-ghost use mathlib.Core.List.{[]};
-ghost use Rattle.refusals.specs.Pick.{pick};
-ghost use Rattle.reception.specs.Said.{replyBytes};
-ghost use Rattle.writing.specs.Contracts.{Put, byteFits, PutLine, PutUp};
+ghost use Rattle.writing.specs.Contracts.{PutReply, PutLine, PutUp};
 
 // Writes the single byte, where there is one, if the line is not empty; returns how many bytes.
 pub fn put_reply(reply: Reply, line: &mut [u8]) -> u16
-    ensures { λ r. ⌜ Put (pick (byteFits (now (line .entry))) (replyBytes reply) []) (now (line .entry)) r (now (line .exit)) ⌝ }
+    ensures { λ r. ⌜ PutReply reply (now (line .entry)) r (now (line .exit)) ⌝ }
 {
     if line.len() < 1 {
         return 0;

@@ -36,7 +36,7 @@ same-length-2 c = search needs
 returns-2 : tie.Need-returns-2
 returns-2 c =
     let a = c .before .before .before .before .before .before .args in
-    let put = simp (byte-fits (now (a .line)) (c .before .before .before .before .before .before .pre)) at (c .before .before .put-reply .ensures) in
+    let put = simp (byte-fits (now (a .line)) (c .before .before .before .before .before .before .pre)) at (c .before .before .put-reply .ensures .put) in
     let e = sym (append-nil (replyBytes (a .outcome .reply))) in
     simp (c .before .before .before .before .if1 .left) (record { count = put .count ∙ ap length e; left = put .left ∙ ap (λ (bs : List ℕ). over bs (now (a .line))) e })
 

@@ -46,7 +46,7 @@ add-result c =
     let a = start .args in
     let frame = now (a .frame) in
     let line = now (a .line) in
-    let put = simp (le-ltb (length line) 1 (omega (arith, at-if2 .if2 .left))) at (at-put-reply .put-reply .ensures) in
+    let put = simp (le-ltb (length line) 1 (omega (arith, at-if2 .if2 .left))) at (at-put-reply .put-reply .ensures .put) in
     omega (arith, put .count, reply-short (a .outcome .reply), at-least .least .ensures, min-le-right (a .size) (length frame), at-if1 .if1 .left)
 
 same-length : tie.Need-same-length
@@ -63,7 +63,7 @@ returns-3 c =
     let a = start .args in
     let frame = now (a .frame) in
     let line = now (a .line) in
-    let put = simp (le-ltb (length line) 1 (omega (arith, at-if2 .if2 .left))) at (at-put-reply .put-reply .ensures) in
+    let put = simp (le-ltb (length line) 1 (omega (arith, at-if2 .if2 .left))) at (at-put-reply .put-reply .ensures .put) in
     record {
       put = simp (le-ltb _ _ (at-if1 .if1 .left), lt-ltb _ _ (at-if2 .if2 .left), at-if3 .if3 .taken)
           (put-behind (replyBytes (a .outcome .reply)) frame line (a .size) _ _ (put .count) (put .left) (at-least .least .ensures) (omega (arith, at-if2 .if2 .left, reply-short (a .outcome .reply))) (c .before .before .lay .ensures));
@@ -81,7 +81,7 @@ returns-4 c =
     let a = start .args in
     let frame = now (a .frame) in
     let line = now (a .line) in
-    let put = simp (le-ltb (length line) 1 (omega (arith, at-if2 .if2 .left))) at (at-put-reply .put-reply .ensures) in
+    let put = simp (le-ltb (length line) 1 (omega (arith, at-if2 .if2 .left))) at (at-put-reply .put-reply .ensures .put) in
     let e = sym (append-nil (replyBytes (a .outcome .reply))) in
     record {
       put = simp (le-ltb _ _ (at-if1 .if1 .left), lt-ltb _ _ (at-if2 .if2 .left), c .if3 .left)
