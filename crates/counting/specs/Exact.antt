@@ -1,4 +1,4 @@
--- What the counts of section 9 are over a whole input, said without any counting on: how many of the events heard are of a column.
+-- What the counts of section 9 are over a whole input, said without a running count: how many of the events heard belong to each column.
 -- Assumes nothing.
 use Prim.Native.Nat.{ℕ, _+_}
 use mathlib.Core.List.{List, [], _∷_}

@@ -1,4 +1,4 @@
--- The xor of a list: at what is left of it, over two lists, and below 256 for bytes.
+-- The xor of a list: of what is left of it, of two lists joined, and that of bytes is below 256.
 -- Assumes nothing.
 use mathlib.Core.Path.{_≡_, refl}
 use mathlib.Core.List.{List, [], _∷_, _++_}

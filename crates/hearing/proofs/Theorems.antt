@@ -1,4 +1,4 @@
--- Reception's promises fix their answers, and the body that they leave (document 01, section 12).
+-- Hearing's promises fix their answers, and the body that they leave (document 01, section 12).
 --     hear-byte-determined, hear-tick-determined                    the next hearing and the event
 --     hunted-determined, measured-determined, followed-determined   the same, by where the hearing stands
 --     hunting-determined                                            whether it hunts

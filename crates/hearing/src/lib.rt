@@ -1,4 +1,4 @@
-// Reception (document 01, section 4): a byte or a tick becomes an event. It knows nothing of sending; tally and counting use it alone.
+// Hearing (document 01, section 4): a byte or a tick becomes an event. It knows nothing of sending; `tally` and `counting` use it alone.
 mod hearing;
 
 pub use hearing::End;

@@ -1,5 +1,5 @@
 -- What document 01 fixes as numbers and later requests vary: the rules of sending (section 5).
--- Every definition of the machine takes them as a parameter.
+-- The definitions that depend on them take them as a parameter.
 -- Assumes nothing.
 use Prim.Native.Nat.{ℕ}
 use lib.Dec.{eqb}

@@ -1,4 +1,4 @@
-// What the open send or session does on an event of reception, and at a restart (sections 5 and 6).
+// What the open send or session does on an event, and at a restart (sections 5 and 6).
 use hearing::End;
 use hearing::Event;
 use hearing::Single;

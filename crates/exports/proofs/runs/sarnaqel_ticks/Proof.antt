@@ -1,4 +1,4 @@
--- `exports::runs::sarnaqel_ticks` meets its contract: the ticks start from what `prepared` leaves.
+-- `exports::runs::sarnaqel_ticks` meets its contract: the ticks start from what `heard_fed` leaves.
 -- Assumes nothing.
 use native.Mathlib.Omega.{arith}
 use denote.Ref.{now}
