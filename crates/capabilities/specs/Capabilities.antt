@@ -19,19 +19,26 @@ use Rattle.capabilities.specs.declared.Support.the-variants as support
 abbrev pub CAPABILITIES : ℕ
 CAPABILITIES = 0x07
 
+-- Type, Command and 8 fixed bytes, then 0 to 32 mask bytes
+abbrev pub MASK_AT : ℕ
+MASK_AT = 10
+
+abbrev pub LONGEST : ℕ
+LONGEST = 42
+
 -- a number of two bytes, most significant first
 abbrev pub word : ℕ → ℕ → ℕ
 word high low = high * 256 + low
 
 -- behind Type, Command and the 8 fixed bytes
 abbrev pub functionMask : List ℕ → List ℕ
-functionMask body = drop 10 body
+functionMask body = drop MASK_AT body
 
 abbrev pub isCapabilities : List ℕ → Bool
 isCapabilities body =
     pick (isResponse body CAPABILITIES)
-    (pick (ltb (length body) 10) false
-    (pick (ltb 42 (length body)) false
+    (pick (ltb (length body) MASK_AT) false
+    (pick (ltb LONGEST (length body)) false
     (pick (isMarked (functionMask body) 256) false true)))
     false
 

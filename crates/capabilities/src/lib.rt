@@ -12,6 +12,11 @@ ghost use Rattle.capabilities.specs.Contracts.{OfCapabilities};
 // The command.
 const CAPABILITIES: u8 = 0x07;
 
+// Where the mask begins, behind Type, Command and 8 fixed bytes; and the bytes of a body with 32 mask bytes.
+const MASK_AT: usize = 10;
+
+const LONGEST: usize = 42;
+
 pub enum Capabilities {
     Refused(Refusal),
     // The last is the number of supported functions.
@@ -59,13 +64,13 @@ fn is_capabilities(body: &[u8]) -> bool
     if !is_response(body, CAPABILITIES) {
         return false;
     }
-    if body.len() < 10 {
+    if body.len() < MASK_AT {
         return false;
     }
-    if 42 < body.len() {
+    if LONGEST < body.len() {
         return false;
     }
-    if is_marked(&body[10..], 256) {
+    if is_marked(&body[MASK_AT..], 256) {
         return false;
     }
     true
@@ -82,7 +87,7 @@ fn capabilities_of(body: &[u8]) -> Capabilities
         manufacturer: word(body[4], body[5]),
         product_type: word(body[6], body[7]),
         product_id: word(body[8], body[9]),
-        supported: ones_in(&body[10..]),
+        supported: ones_in(&body[MASK_AT..]),
     }
 }
 
@@ -103,7 +108,7 @@ pub fn supports(body: &[u8], f: u8) -> Support
     if !is_capabilities(body) {
         return Support::Refused(Refusal::Form);
     }
-    if is_marked(&body[10..], f as u16) {
+    if is_marked(&body[MASK_AT..], f as u16) {
         return Support::Supported;
     }
     Support::Unsupported

@@ -12,7 +12,8 @@ use lib.ListN.{length, take, drop, getD, take-append-drop, length-drop}
 use lib.Seq.{drop-cons, drop-drop, length-take-le}
 use Rattle.refusals.specs.Pick.{pick}
 use Rattle.frame.specs.Bytes.{fold}
-use Rattle.hearing.specs.Hearing.{heard, begun, more, ended, walked}
+use Rattle.hearing.specs.Hearing.{heard, begun, more, ended}
+use Rattle.hearing.specs.Contracts.{walked}
 use Rattle.hearing.proofs.Walks.{walked-size, walked-at, walked-sum, walked-kind}
 use Rattle.hearing.specs.declared.hearing.Partial.{Partial}
 use Rattle.hearing.specs.declared.hearing.Hearing.{Hearing}

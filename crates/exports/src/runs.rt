@@ -35,13 +35,13 @@ pub extern "C" fn sarnaqel_runs(input: &[u8], most: usize, line: &mut [u8], up: 
 }
 
 // What a link came to, and the number so far.
-struct Reached {
+struct FedLink {
     link: Link,
     sum: u64,
 }
 
 // Every byte in a call of its own. Every call of a link has one place in this module, since LLVM inlines what is called once.
-fn bytes_fed(start: Link, input: &[u8], line: &mut [u8], up: &mut [u8]) -> Reached
+fn bytes_fed(start: Link, input: &[u8], line: &mut [u8], up: &mut [u8]) -> FedLink
     ensures { λ r. ⌜ bytesFed (checks (now (line .entry)) (now (up .entry)) Passes) (at start (now (line .entry)) (now (up .entry)) 0) (now (input .entry)) ≡ at (r .link) (now (line .exit)) (now (up .exit)) (r .sum) ⌝ }
 {
     let mut link = start;
@@ -54,7 +54,7 @@ fn bytes_fed(start: Link, input: &[u8], line: &mut [u8], up: &mut [u8]) -> Reach
         sum = mix(sum, answer_number(answer));
         i += 1;
     }
-    Reached {
+    FedLink {
         link: link,
         sum: sum,
     }

@@ -7,7 +7,8 @@ use native.Mathlib.Omega.{arith}
 use borrow.Author.Tests.{ne-eqb}
 use lib.ListN.{length}
 use Rattle.frame.specs.Bytes.{fold}
-use Rattle.hearing.specs.Hearing.{more, walked}
+use Rattle.hearing.specs.Hearing.{more}
+use Rattle.hearing.specs.Contracts.{walked}
 use Rattle.hearing.specs.declared.hearing.Partial.{Partial}
 
 pub walked-size : (p : Partial) (bs : List ℕ) → walked p bs .size ≡ p .size

@@ -2,7 +2,7 @@
 -- Assumes nothing.
 use Prim.Native.Nat.{ℕ, _+_, _-_}
 use mathlib.Core.Bool.{Bool, true, false}
-use mathlib.Core.List.{List, [], _∷_}
+use mathlib.Core.List.{List}
 use lib.Bits.{bitXor}
 use lib.Dec.{ltb, eqb}
 use lib.ListN.{set}
@@ -54,11 +54,6 @@ more p b =
       kind = pick (eqb (p .at) 0) b (p .kind);
       command = pick (eqb (p .at) 1) b (p .command);
     }
-
--- these body bytes, one after the other
-unfoldable pub walked : Partial → List ℕ → Partial
-walked p [] = p
-walked p (b ∷ bs) = walked (more p b) bs
 
 -- Right checksum, by Type: 00 a request, 01 a response, else reserved.
 abbrev pub ended : Partial → End

@@ -7,12 +7,12 @@ use lib.ListN.{length, getD}
 use Rattle.frame.specs.Bytes.{over}
 use Rattle.masks.specs.Mask.{marked}
 use Rattle.nodes.specs.declared.NodeList.{NodeList}
-use Rattle.nodes.specs.Nodes.{nodesOf, nodeAnswer}
+use Rattle.nodes.specs.Nodes.{nodesOf, nodeAnswer, NODE_MASK, EMPTY_LIST, LAST_NODE}
 
 -- what the layouts say of a body
 pub record OfNodeList (body : List ℕ) : Type 0 where
-  pub few : getD body 4 0 ≤ 29
-  pub size : length body ≡ getD body 4 0 + 7
+  pub few : getD body 4 0 ≤ NODE_MASK
+  pub size : length body ≡ getD body 4 0 + EMPTY_LIST
 
 -- what is answered and written of a body of one of the layouts
 pub record Fill (body lent : List ℕ) (r : NodeList) (lent′ : List ℕ) : Type 0 where
@@ -21,5 +21,5 @@ pub record Fill (body lent : List ℕ) (r : NodeList) (lent′ : List ℕ) : Typ
 
 -- what the loop over a mask writes and answers
 pub record ListNodes (mask lent : List ℕ) (n : ℕ) (lent′ : List ℕ) : Type 0 where
-  pub count : n ≡ length (marked mask 232)
-  pub left : lent′ ≡ over (marked mask 232) lent
+  pub count : n ≡ length (marked mask LAST_NODE)
+  pub left : lent′ ≡ over (marked mask LAST_NODE) lent

@@ -19,13 +19,29 @@ use Rattle.nodes.specs.declared.NodeList.the-variants.{Refused, Answer}
 abbrev pub NODE_LIST : ℕ
 NODE_LIST = 0x02
 
--- with Type and Command 36 bytes, or 7 with no mask
+-- the bytes of a mask; with Type and Command a body has 36 bytes, or 7 with no mask
+abbrev pub NODE_MASK : ℕ
+NODE_MASK = 29
+
+abbrev pub FULL_LIST : ℕ
+FULL_LIST = 36
+
+abbrev pub EMPTY_LIST : ℕ
+EMPTY_LIST = 7
+
+-- node k, 1 to 232; the list needs room for 232
+abbrev pub LAST_NODE : ℕ
+LAST_NODE = 232
+
+abbrev pub LIST_ROOM : ℕ
+LIST_ROOM = 232
+
 abbrev pub isNodeList : List ℕ → Bool
 isNodeList body =
     pick (isResponse body NODE_LIST)
-    (pick (eqb (length body) 36)
-    (eqb (getD body 4 0) 29)
-    (pick (eqb (length body) 7)
+    (pick (eqb (length body) FULL_LIST)
+    (eqb (getD body 4 0) NODE_MASK)
+    (pick (eqb (length body) EMPTY_LIST)
     (eqb (getD body 4 0) 0)
     false))
     false
@@ -36,7 +52,7 @@ nodeMask body = take (getD body 4 0) (drop 5 body)
 
 -- node k, 1 to 232, stands as a function does; nodes are listed in rising order
 abbrev pub nodesOf : List ℕ → List ℕ
-nodesOf body = marked (nodeMask body) 232
+nodesOf body = marked (nodeMask body) LAST_NODE
 
 abbrev pub nodeAnswer : List ℕ → NodeList
 nodeAnswer body =
@@ -55,7 +71,7 @@ nodesTold (Answer v c n t u) = 0 ∷ v ∷ c ∷ n ∷ t ∷ u ∷ []
 -- ROOM before FORM; the list needs room for 232
 abbrev pub nodeListOf : List ℕ → ℕ → NodeList
 nodeListOf body room =
-    pick (ltb room 232) (Refused refusal.Room)
+    pick (ltb room LIST_ROOM) (Refused refusal.Room)
     (pick (isNodeList body) (nodeAnswer body) (Refused refusal.Form))
 
 -- the lent list after the call

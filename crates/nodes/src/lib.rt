@@ -5,11 +5,24 @@ use refusals::Refusal;
 ghost use mathlib.Core.Path.{_≡_};
 ghost use Prim.Native.Nat.{_≤_};
 ghost use lib.ListN.{length};
+ghost use Rattle.nodes.specs.Nodes as spec;
 ghost use Rattle.nodes.specs.Nodes.{isNodeList, ReadNodes};
 ghost use Rattle.nodes.specs.Contracts.{OfNodeList, Fill, ListNodes};
 
 // The command.
 const NODE_LIST: u8 = 0x02;
+
+// The bytes of a mask, as a list counts them, and of a body with a mask and without.
+const NODE_MASK: u8 = 29;
+
+const FULL_LIST: usize = 36;
+
+const EMPTY_LIST: usize = 7;
+
+// Node k, 1 to 232; the list needs room for as many.
+const LAST_NODE: u8 = 232;
+
+pub const LIST_ROOM: usize = 232;
 
 pub enum NodeList {
     Refused(Refusal),
@@ -30,10 +43,10 @@ fn is_node_list(body: &[u8]) -> bool
     if !is_response(body, NODE_LIST) {
         return false;
     }
-    if body.len() == 36 {
-        return body[4] == 29;
+    if body.len() == FULL_LIST {
+        return body[4] == NODE_MASK;
     }
-    if body.len() == 7 {
+    if body.len() == EMPTY_LIST {
         return body[4] == 0;
     }
     false
@@ -41,12 +54,12 @@ fn is_node_list(body: &[u8]) -> bool
 
 // Writes the nodes that the mask marks over the first bytes of the list, and answers how many they are.
 fn list_nodes(mask: &[u8], list: &mut [u8]) -> u8
-    requires { ⌜ 232 ≤ length (now list) ⌝ }
+    requires { ⌜ spec.LIST_ROOM ≤ length (now list) ⌝ }
     ensures { λ r. ⌜ ListNodes (now (mask .entry)) (now (list .entry)) r (now (list .exit)) ⌝ }
 {
     let mut n: u8 = 0;
     let mut k: u8 = 0;
-    while k < 232 {
+    while k < LAST_NODE {
         k += 1;
         if is_marked(mask, k as u16) {
             list[n as usize] = k;
@@ -58,7 +71,7 @@ fn list_nodes(mask: &[u8], list: &mut [u8]) -> u8
 
 // Lists the nodes of a body of one of the layouts.
 fn fill(body: &[u8], list: &mut [u8]) -> NodeList
-    requires { ⌜ (232 ≤ length (now list)) × OfNodeList (now body) ⌝ }
+    requires { ⌜ (spec.LIST_ROOM ≤ length (now list)) × OfNodeList (now body) ⌝ }
     ensures { λ r. ⌜ Fill (now (body .entry)) (now (list .entry)) r (now (list .exit)) ⌝ }
 {
     let end = body[4] as usize + 5;
@@ -76,7 +89,7 @@ fn fill(body: &[u8], list: &mut [u8]) -> NodeList
 pub fn read_nodes(body: &[u8], list: &mut [u8]) -> NodeList
     ensures { λ r. ⌜ ReadNodes (now (body .entry)) (now (list .entry)) r (now (list .exit)) ⌝ }
 {
-    if list.len() < 232 {
+    if list.len() < LIST_ROOM {
         return NodeList::Refused(Refusal::Room);
     }
     if !is_node_list(body) {

@@ -28,7 +28,8 @@ use Rattle.hearing.specs.declared.hearing.Hearing.{Hearing}
 use Rattle.hearing.specs.declared.hearing.Hearing.the-variants.{Hunting, Head, Body}
 use Rattle.hearing.specs.declared.hearing.Partial.{Partial}
 use Rattle.run.specs.declared.run.Reach.{Reach}
-use Rattle.hearing.specs.Hearing.{heard, hunted, measured, begun, more, followed, hearByte, keep, walked}
+use Rattle.hearing.specs.Hearing.{heard, hunted, measured, begun, more, followed, hearByte, keep}
+use Rattle.hearing.specs.Contracts.{walked}
 use Rattle.run.specs.Contracts.{Far, hasNews, behind, hearFrom, far, gone, onFrom, Quiet, Onward, isSign, skipped, Noise, kept, picked}
 
 -- ---- hearing at what is left

@@ -20,7 +20,7 @@ ghost use Prim.Native.Nat.{ℕ, _+_, _-_, _≤_, _<_, min};
 ghost use lib.ListN.{length};
 ghost use Rattle.frame.specs.Bytes.{fold};
 ghost use Rattle.frame.specs.Frame as frames;
-ghost use Rattle.hearing.specs.Hearing as hearings;
+ghost use Rattle.hearing.specs.Contracts as hearings;
 ghost use Rattle.run.specs.Contracts as spec;
 ghost use Rattle.run.specs.Contracts.{HearRun, Noise, Quiet, Onward};
 ghost use Rattle.hearing.specs.declared.hearing.Hearing.the-variants as hearing;
@@ -141,7 +141,7 @@ fn walked(p: Partial, s: &[u8], body: &mut [u8; MAX_BODY]) -> Partial
 }
 
 // How many of the bytes that are there belong to the body.
-fn left(p: Partial, there: usize) -> usize
+fn body_left(p: Partial, there: usize) -> usize
     ensures { λ r. ⌜ r ≡ min (p .size - p .at) there ⌝ }
 {
     if p.size <= p.at {
@@ -157,7 +157,7 @@ fn body_on(r: Reach, p: Partial, bytes: &[u8], body: &mut [u8; MAX_BODY]) -> Rea
     ensures { λ q. ⌜ (length (now (body .entry)) ≡ frames.MAX_BODY → Onward (now (bytes .entry)) r (now (body .entry)) q (now (body .exit))) × (r .taken < q .taken) × (q .taken ≤ length (now (bytes .entry))) × (length (now (body .exit)) ≡ length (now (body .entry))) ⌝ }
 {
     let i = r.taken;
-    let n = left(p, bytes.len() - i);
+    let n = body_left(p, bytes.len() - i);
     let end = i + n;
     let next = walked(p, &bytes[i..end], body);
     if end < bytes.len() {

@@ -159,7 +159,7 @@ fn old_timeouts(body: &[u8], out: &mut [u8], waiting: usize) -> usize {
 // The size of the buffer that a call is lent: the one that its order names, if it names one.
 fn room_of(verb: BodyVerb, size: u32) -> usize {
     match verb {
-        BodyVerb::Nodes => 232,
+        BodyVerb::Nodes => nodes::LIST_ROOM,
         BodyVerb::Timeouts => 7,
         BodyVerb::NodesRoom | BodyVerb::TimeoutsRoom => size as usize,
         BodyVerb::Capabilities | BodyVerb::TimeoutsRes => 0,

@@ -18,7 +18,8 @@ use Rattle.report.specs.declared.Reset.{Reset}
 use Rattle.step.specs.declared.checks.Checked.{Checked}
 use Rattle.step.specs.declared.core.Core.{Core}
 use Rattle.step.specs.declared.deciding.Outcome.{Outcome}
-use Rattle.step.specs.Checks.{lacksRoom, sendChecks, sessionChecks}
+use Rattle.step.specs.Checks.{lacksRoom}
+use Rattle.step.specs.Contracts.{sendChecks, sessionChecks}
 use Rattle.step.specs.Core.{freshCore}
 use Rattle.step.specs.Deciding.{either, decide, opening, restarting}
 

@@ -35,10 +35,3 @@ sendOwn j kind n = check (isOpen j) Busy (check (ltb RES kind) Kind (check (ltb 
 
 abbrev pub sessionOwn : Job → ℕ → Checked
 sessionOwn j n = check (isOpen j) Busy (check (ltb MAX_PARAMETERS n) Long Passes)
-
--- all of them: ROOM first
-abbrev pub sendChecks : ℕ → ℕ → Job → ℕ → ℕ → Checked
-sendChecks line up j kind n = roomChecks line up (sendOwn j kind n)
-
-abbrev pub sessionChecks : ℕ → ℕ → Job → ℕ → Checked
-sessionChecks line up j n = roomChecks line up (sessionOwn j n)

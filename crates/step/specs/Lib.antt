@@ -1,3 +1,4 @@
 pub mod Core
 pub mod Deciding
 pub mod Checks
+pub mod Contracts

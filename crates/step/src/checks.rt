@@ -7,7 +7,8 @@ use job::Job;
 use job::is_open;
 use refusals::Refusal;
 ghost use mathlib.Core.Path.{_≡_};
-ghost use Rattle.step.specs.Checks.{lacksRoom, sendChecks, sessionChecks};
+ghost use Rattle.step.specs.Checks.{lacksRoom};
+ghost use Rattle.step.specs.Contracts.{sendChecks, sessionChecks};
 
 pub enum Checked {
     Passes,

@@ -8,7 +8,7 @@ use lib.ListN.{length, take, drop}
 use Rattle.hearing.specs.declared.hearing.Heard.{Heard}
 use Rattle.run.specs.declared.run.Reach.{Reach}
 use Rattle.run.specs.Contracts.{gone, kept}
-use Rattle.hearing.specs.Hearing.{walked}
+use Rattle.hearing.specs.Contracts.{walked}
 use Rattle.run.proofs.Turns.{part-length, walked-at, bodied-whole, bodied-part}
 use borrow.Author.Needs.{needs}
 use Rattle.run.proofs.run.body_on.Statement.{statement}
@@ -17,8 +17,8 @@ use Rattle.run.proofs.run.body_on.Tie as tie
 sub-left : tie.Need-sub-left
 sub-left c = search needs
 
-left-requires : tie.Need-left-requires
-left-requires c κs = search needs
+body-left-requires : tie.Need-body-left-requires
+body-left-requires c κs = search needs
 
 add-end : tie.Need-add-end
 add-end c = search needs
@@ -107,7 +107,7 @@ body-on-spec =
     tie.close
     (tie.spec
     sub-left
-    left-requires
+    body-left-requires
     add-end
     sub-walked
     part-walked-start
