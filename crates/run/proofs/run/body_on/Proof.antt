@@ -14,8 +14,8 @@ use borrow.Author.Needs.{needs}
 use Rattle.run.proofs.run.body_on.Statement.{statement}
 use Rattle.run.proofs.run.body_on.Tie as tie
 
-sub-left : tie.Need-sub-left
-sub-left c = search needs
+sub-body-left : tie.Need-sub-body-left
+sub-body-left c = search needs
 
 body-left-requires : tie.Need-body-left-requires
 body-left-requires c κs = search needs
@@ -55,7 +55,7 @@ returns c =
     let bs = now (a .bytes) in
     let i = a .r .taken in
     let w = c .before .before .before .before .walked in
-    let l = c .before .before .before .before .before .before .before .left in
+    let l = c .before .before .before .before .before .before .before .body-left in
     let n = l .result in
     let e : i + n - i ≡ n = omega arith in
     let x : w .result ≡ walked (a .p) (take n (drop i bs)) = w .ensures .0 ∙ ap (λ (m : ℕ). walked (a .p) (take m (drop i bs))) e in
@@ -78,7 +78,7 @@ sub-t21 c =
     let bs = now (a .bytes) in
     let i = a .r .taken in
     let w = c .before .before .walked in
-    let l = c .before .before .before .before .before .left in
+    let l = c .before .before .before .before .before .body-left in
     let n = l .result in
     let e : i + n - i ≡ n = omega arith in
     let x : w .result ≡ walked (a .p) (take n (drop i bs)) = w .ensures .0 ∙ ap (λ (m : ℕ). walked (a .p) (take m (drop i bs))) e in
@@ -93,7 +93,7 @@ returns-2 c =
     let bs = now (a .bytes) in
     let i = a .r .taken in
     let w = c .before .before .walked in
-    let l = c .before .before .before .before .before .left in
+    let l = c .before .before .before .before .before .body-left in
     let n = l .result in
     let e : i + n - i ≡ n = omega arith in
     let x : w .result ≡ walked (a .p) (take n (drop i bs)) = w .ensures .0 ∙ ap (λ (m : ℕ). walked (a .p) (take m (drop i bs))) e in
@@ -106,7 +106,7 @@ pub body-on-spec : {M : Type 1} → statement M
 body-on-spec =
     tie.close
     (tie.spec
-    sub-left
+    sub-body-left
     body-left-requires
     add-end
     sub-walked

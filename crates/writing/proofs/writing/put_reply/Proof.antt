@@ -10,7 +10,7 @@ use Rattle.writing.proofs.writing.put_reply.Statement.{statement}
 use Rattle.writing.proofs.writing.put_reply.Tie as tie
 
 returns : tie.Need-returns
-returns c = simp (lt-ltb _ _ (c .if1 .taken)) (record { put = record { count = refl; left = refl } })
+returns c = record { put = simp (lt-ltb _ _ (c .if1 .taken)) (record { count = refl; left = refl }) }
 
 enum-told : tie.Need-enum-told
 enum-told c = search needs
@@ -28,7 +28,7 @@ slice-write-line-2 : tie.Need-slice-write-line-2
 slice-write-line-2 c = search needs
 
 returns-2 : tie.Need-returns-2
-returns-2 c = simp (c .enum-told .given .1, le-ltb _ _ (c .before .before .if1 .left)) (record { put = record { count = refl; left = refl } })
+returns-2 c = record { put = simp (c .enum-told .given .1, le-ltb _ _ (c .before .before .if1 .left)) (record { count = refl; left = refl }) }
 
 same-length : tie.Need-same-length
 same-length c = search needs
@@ -36,7 +36,9 @@ same-length c = search needs
 returns-3 : tie.Need-returns-3
 returns-3 c =
     let a = c .before .before .before .args in
-    simp (c .enum-told2 .given .1, le-ltb _ _ (c .before .before .if1 .left)) (record { put = record { count = refl; left = over-one (now (a .line)) 6 (omega (arith, c .before .before .if1 .left)) } })
+    record {
+      put = simp (c .enum-told2 .given .1, le-ltb _ _ (c .before .before .if1 .left)) (record { count = refl; left = over-one (now (a .line)) 6 (omega (arith, c .before .before .if1 .left)) });
+    }
 
 same-length-2 : tie.Need-same-length-2
 same-length-2 c = search needs
@@ -44,7 +46,9 @@ same-length-2 c = search needs
 returns-4 : tie.Need-returns-4
 returns-4 c =
     let a = c .before .before .before .args in
-    simp (c .enum-told3 .given .1, le-ltb _ _ (c .before .before .if1 .left)) (record { put = record { count = refl; left = over-one (now (a .line)) 21 (omega (arith, c .before .before .if1 .left)) } })
+    record {
+      put = simp (c .enum-told3 .given .1, le-ltb _ _ (c .before .before .if1 .left)) (record { count = refl; left = over-one (now (a .line)) 21 (omega (arith, c .before .before .if1 .left)) });
+    }
 
 pub put-reply-spec : {M : Type 1} → statement M
 put-reply-spec =
