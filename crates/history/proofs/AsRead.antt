@@ -11,7 +11,7 @@ use lib.Seq.{take-at, take-nil, getD-at}
 use borrow.Author.Tests.{ltb-true, ltb-false, lt-ltb, le-ltb, eqb-true, eqb-false, eq-eqb, ne-eqb}
 use Rattle.refusals.specs.Pick.{pick}
 use Rattle.frame.specs.Bytes.{fold}
-use Rattle.frame.specs.Frame.{counted, checksum, frameOf}
+use Rattle.frame.specs.Frame.{START, MAX_PARAMETERS, MIN_LENGTH, MAX_BODY, counted, checksum, frameOf}
 use Rattle.refusals.specs.declared.Refusal.the-variants as refusal
 use Rattle.reading.specs.Reader.{read, measuredOf, parametersOf}
 use Rattle.reading.proofs.Theorems.{read-built}
@@ -22,7 +22,7 @@ use Rattle.hearing.specs.Hearing.{heard, hearByte, hearTick, begun, more, ended
 use Rattle.sending.specs.Events.{release, awaits, onEnd, awaitedBy}
 use Rattle.report.specs.Report.{newsReception, newsSending, newsSession, newsReset}
 use Rattle.step.specs.Checks.{roomChecks}
-use Rattle.link.specs.Out.{Out, Taken, byteBy, byteOut, tickOut, openOut, news, quiet, runFrom, runOut}
+use Rattle.link.specs.Out.{Out, byteBy, byteOut, tickOut, openOut, news, quiet, runFrom, runOut}
 use Rattle.step.specs.declared.checks.Checked.{Checked}
 use Rattle.step.specs.declared.checks.Checked.the-variants.{Passes, Refuses}
 use Rattle.hearing.specs.declared.hearing.Partial.{Partial}
@@ -41,14 +41,16 @@ use Rattle.link.specs.declared.link.Link.{Link}
 use Rattle.history.specs.Perform.{What, byte, bytes, tick, send, session, restart, Call, checksOf, outOf, Done, refused, took, doneBy, perform}
 use Rattle.history.specs.History.{next, run, after, oneTick, oneRestart, accepted, ticksIn, restartsIn}
 use Rattle.history.specs.Received.{feed, takenBy, ifTaken, received}
-use Rattle.history.specs.Whole.{Whole, short, full, fromFirst, clockIn, ComesWhole, dueCopy, Ending, EndsBy, AsRead}
+use Rattle.history.specs.Runs.{SameSender}
+use Rattle.history.specs.Section11.{endAnswer}
+use Rattle.history.specs.Whole.{Whole, short, full, fromFirst, clockIn, ComesWhole, dueCopy, Ending, EndsBy, AsRead, RunAsRead}
 use Rattle.refusals.proofs.Picks.{pick-by, pick-ok}
 use Rattle.history.proofs.Histories.{accepted-is}
 use Rattle.hearing.proofs.Theorems.{keep-length}
 use Rattle.history.proofs.Ranges.{body-254}
-use Rattle.history.proofs.Section11.{answerTo, end-reply, byte-at, checked}
+use Rattle.history.proofs.Section11.{end-reply, byte-at, checked}
 use Rattle.history.proofs.Bodies.{partialOf, begun-is, more-is, kept-more}
-use Rattle.history.proofs.Runs.{quiet-by-report, run-bytes, run-feeds, taken-is, SameSender, quiet-sender}
+use Rattle.history.proofs.Runs.{quiet-by-report, run-bytes, run-feeds, taken-is, quiet-sender}
 use Rattle.reception.specs.Said.{saidEnd}
 
 -- ---- bytes that come whole, seen from their Length on
@@ -72,14 +74,14 @@ starts xs (short n e k) = (ap (λ (s : List ℕ). getD s 0 0) e, let v : length 
 starts xs (full n s e k m d) = (ap (λ (s : List ℕ). getD s 0 0) e, let v : length xs ≡ suc (suc (length s)) = ap length e in omega arith)
 
 -- 01 and any Length below 3 are whole, and so are 01, any other Length and as many bytes
-pub short-is-whole : (len : ℕ) → len < 3 → Whole (1 ∷ len ∷ [])
+pub short-is-whole : (len : ℕ) → len < MIN_LENGTH → Whole (START ∷ len ∷ [])
 short-is-whole len k = short len refl k
 
-pub full-is-whole : (len : ℕ) (rest : List ℕ) → 3 ≤ len → len ≤ 255 → length rest ≡ len → Whole (1 ∷ len ∷ rest)
+pub full-is-whole : (len : ℕ) (rest : List ℕ) → MIN_LENGTH ≤ len → len ≤ 255 → length rest ≡ len → Whole (START ∷ len ∷ rest)
 full-is-whole len rest k m n = full len rest refl k m n
 
 -- every frame is whole, and so is what the frame reader accepts
-pub frame-is-whole : (kind command : ℕ) (ps : List ℕ) → length ps ≤ 252 → Whole (frameOf kind command ps)
+pub frame-is-whole : (kind command : ℕ) (ps : List ℕ) → length ps ≤ MAX_PARAMETERS → Whole (frameOf kind command ps)
 unfolding frameOf
 frame-is-whole kind command ps k =
     full (length ps + 3) (kind ∷ command ∷ (ps ++ (checksum (counted kind command ps) ∷ []))) refl (omega arith) (omega arith) (omega (arith, length-append ps (checksum (counted kind command ps) ∷ [])))
@@ -348,14 +350,14 @@ end-copy (end.Request size) j held = release-copy j held
 end-copy (end.Response size command) j held = response-copy size command j held
 
 ending : (R : Rules) (l : Link) (b : ℕ) (e : End) (up : List ℕ) → take ((saidEnd e (awaitedBy (l .core .job))) .up) (l .body) ≡ up
-    → Ending (l .core .job) (take (l .core .size) (l .frame)) ((saidEnd e (awaitedBy (l .core .job))) .reception) (answerTo e) up (byteBy R l b (heard Hunting (Ended e)))
+    → Ending (l .core .job) (take (l .core .size) (l .frame)) ((saidEnd e (awaitedBy (l .core .job))) .reception) (endAnswer e) up (byteBy R l b (heard Hunting (Ended e)))
 ending R l b e up u =
     let j = l .core .job in
     let held = take (l .core .size) (l .frame) in
     record {
       hunting = refl;
       reception = refl;
-      line = ap (λ (y : List ℕ). y ++ pick ((onEnd e j) .copy) held []) (end-reply e j) ∙ ap (λ (y : List ℕ). answerTo e ++ y) (end-copy e j held);
+      line = ap (λ (y : List ℕ). y ++ pick ((onEnd e j) .copy) held []) (end-reply e j) ∙ ap (λ (y : List ℕ). endAnswer e ++ y) (end-copy e j held);
       up = u;
     }
 
@@ -498,7 +500,7 @@ last-call R xs t l (session command ps) w n e = absurd (omega arith)
 last-call R xs t l restart w n e = absurd (omega arith)
 
 -- Bytes that come whole to a link that hunts end as bad length, bad sum, reserved or handed up, with the answer on the line, exactly as the frame reader reads them.
-pub received-as-read : (R : Rules) (l : Link) (k : List Call) (c : Call) (o : Out) (xs : List ℕ) → l .core .hearing ≡ Hunting → length (l .body) ≡ 254
+pub received-as-read : (R : Rules) (l : Link) (k : List Call) (c : Call) (o : Out) (xs : List ℕ) → l .core .hearing ≡ Hunting → length (l .body) ≡ MAX_BODY
     → ComesWhole R l k c xs → perform R (run R l k) c ≡ took o → AsRead (run R l k) xs (read xs) o
 received-as-read R l k c o xs q r w p =
     let z = run R l k in
@@ -513,7 +515,7 @@ pub history-as-read : (R : Rules) (h k : List Call) (c : Call) (o : Out) (xs : L
 history-as-read R h k c o xs q w p = received-as-read R (after R h) k c o xs q (body-254 R h) w p
 
 -- ---- the same, given one by one
-pub fed-as-read : (R : Rules) (l : Link) (ys : List ℕ) (b : ℕ) → l .core .hearing ≡ Hunting → length (l .body) ≡ 254 → Whole (ys ++ (b ∷ []))
+pub fed-as-read : (R : Rules) (l : Link) (ys : List ℕ) (b : ℕ) → l .core .hearing ≡ Hunting → length (l .body) ≡ MAX_BODY → Whole (ys ++ (b ∷ []))
     → AsRead l (ys ++ (b ∷ [])) (read (ys ++ (b ∷ []))) (byteOut R (feed R l ys) b)
 fed-as-read R l ys b q r w =
     let xs = ys ++ (b ∷ []) in
@@ -542,11 +544,6 @@ as-read-news l xs (Parts kind command n) o e =
     (pick-ok (λ (x : Reception). newsReception x ≡ true) (eqb kind 0) _ _ refl
     (pick-ok (λ (x : Reception). newsReception x ≡ true) (awaits command (l .core .job)) _ _ refl refl))
 
--- a run that gives this took n bytes, and its last ended the frame as read
-pub record RunAsRead (l : Link) (xs : List ℕ) (n : ℕ) (t : Taken) : Type 0 where
-  pub taken : t .taken ≡ n
-  pub out : AsRead l xs (read xs) (t .out)
-
 from-as-read : (R : Rules) (xs : List ℕ) (t b : ℕ) (zs behind : List ℕ) (n : ℕ) (o : Out) → Whole xs → Expects xs t (b ∷ zs) (o .link)
     → RunAsRead (o .link) xs (n + suc (length zs)) (runFrom R o n (b ∷ (zs ++ behind)))
 unfolding runFrom
@@ -562,7 +559,7 @@ from-as-read R xs t b (z ∷ zs) behind n o w e =
     (λ _. record { taken = i .taken ∙ omega arith; out = same-sender (o .link) ((byteOut R (o .link) b) .link) s xs (read xs) _ (i .out) })
 
 -- it takes these bytes and no more
-pub run-as-read : (R : Rules) (l : Link) (xs behind : List ℕ) → l .core .hearing ≡ Hunting → length (l .body) ≡ 254 → Whole xs
+pub run-as-read : (R : Rules) (l : Link) (xs behind : List ℕ) → l .core .hearing ≡ Hunting → length (l .body) ≡ MAX_BODY → Whole xs
     → RunAsRead l xs (length xs) (runOut R l (xs ++ behind))
 run-as-read R l [] behind q r w = let m = (starts [] w) .1 in absurd (omega (arith, m))
 run-as-read R l (b ∷ zs) behind q r w =

@@ -3,67 +3,47 @@
 use Prim.Native.Nat.{ℕ}
 use mathlib.Core.Path.{_≡_, refl}
 use mathlib.Core.Bool.{true, false, false≢true}
-use mathlib.Core.List.{List, [], _∷_, _++_, map}
+use mathlib.Core.List.{[], _∷_, _++_, map}
 use lib.ListN.{replicate}
 use lib.Dec.{eqb}
 use Rattle.refusals.specs.Pick.{pick}
 use Rattle.frame.specs.Bytes.{fold}
-use Rattle.frame.specs.Frame.{frameOf}
+use Rattle.frame.specs.Frame.{REQ, ACK, NAK, frameOf}
 use Rattle.rules.specs.Rules.{base}
 use Rattle.job.specs.declared.job.Asking.the-variants.{Plain, Asks}
 use Rattle.link.specs.Link.{freshLink, noBody, noFrame}
 use Rattle.report.specs.declared.Sending.the-variants as sending
 use Rattle.report.specs.declared.Session.the-variants as sessions
-use Rattle.link.specs.Out.{Out, byteOut, tickOut, openOut, restartOut, runFrom}
-use Rattle.history.specs.Perform.{What, byte, bytes, tick, send, session, restart, Call, outOf}
+use Rattle.link.specs.Out.{byteOut, tickOut, openOut, restartOut, runFrom}
+use Rattle.history.specs.Perform.{byte, tick, send, restart, lent, outOf}
+use Rattle.history.specs.Counts.{sent07, asked07, everyCall}
 use Rattle.history.specs.History.{after, ticksIn, restartsIn}
 use Rattle.history.specs.Cut.{frames, singles, IsAnswer, ack, nak}
 use Rattle.history.specs.Watch.{Verdict, acknowledged, failed, response, noResponse, notSent, isOwn, none, says, both, verdictIn, verdictCount, ended, watched, verdictsFrom, abandonsFrom, linesFrom}
 
-abbrev lent : What → Call
-lent w = record { what = w; line = 258; up = 254 }
-
-abbrev sent : Out
-sent = outOf base freshLink (send 0 7 [])
-
 -- one verdict of a send that is acknowledged
-pub one-verdict : verdictsFrom base Plain sent (lent (byte 0x06) ∷ []) ≡ 1
+pub one-verdict : verdictsFrom base Plain sent07 (lent (byte 0x06) ∷ []) ≡ 1
 unfolding byteOut openOut frameOf fold noBody noFrame
 one-verdict = refl
 
 -- the bytes of a watch are those of the accepting call, and those of the call of the verdict
-abbrev asked : Out
-asked = outOf base freshLink (session 7 [])
-
-pub verdict-bytes : watched base (Asks 7) asked (map (λ (b : ℕ). lent (byte b)) (0x06 ∷ 0x01 ∷ 0x03 ∷ 0x01 ∷ 0x07 ∷ 0xFA ∷ []))
+pub verdict-bytes : watched base (Asks 0x07) asked07 (map (λ (b : ℕ). lent (byte b)) (0x06 ∷ 0x01 ∷ 0x03 ∷ 0x01 ∷ 0x07 ∷ 0xFA ∷ []))
     ≡ ended (response 1) 0 (0x01 ∷ 0x03 ∷ 0x00 ∷ 0x07 ∷ 0xFB ∷ 0x06 ∷ [])
 unfolding byteOut openOut frameOf fold noBody noFrame
 verdict-bytes = refl
 
 -- the bytes until another is accepted are those of every call: here of the tick that aborts a frame and puts the due copy out, and of two restarts
-pub every-line : linesFrom base (outOf base (after base (lent (byte 0x01) ∷ [])) (send 0 7 [])) (replicate 1501 (lent tick) ++ (lent restart ∷ lent restart ∷ []))
+pub every-line : linesFrom base (outOf base (after base (lent (byte 0x01) ∷ [])) (send REQ 0x07 [])) (replicate 1501 (lent tick) ++ (lent restart ∷ lent restart ∷ []))
     ≡ 0x01 ∷ 0x03 ∷ 0x00 ∷ 0x07 ∷ 0xFB ∷ 0x15 ∷ 0x15 ∷ []
 unfolding byteOut tickOut openOut restartOut frameOf fold noBody noFrame
 every-line = refl
 
--- every kind of call once, and a tick that is refused: one accepted tick and one accepted restart
-abbrev everyCall : List Call
-everyCall =
-    lent tick
-    ∷ lent (byte 0x00)
-    ∷ lent (bytes [])
-    ∷ lent (send 0 7 [])
-    ∷ lent (byte 0x06)
-    ∷ lent (session 7 [])
-    ∷ record { what = tick; line = 257; up = 254 }
-    ∷ lent restart
-    ∷ []
-
+-- one accepted tick and one accepted restart
 pub accepted-counted : (ticksIn base freshLink everyCall ≡ 1) × (restartsIn base freshLink everyCall ≡ 1)
 unfolding byteOut tickOut openOut restartOut runFrom frameOf fold noBody noFrame
 accepted-counted = (refl, refl)
 
--- A verdict is found in either part, whichever the send was; two are two. A session's ACK with waiting is none, its failure with not sent is one.
+-- A verdict is found in either part, whichever the send was; two are two. A session's ACK with waiting is none, its failure with not sent07 is one.
 pub both-parts : (c n m : ℕ) → (verdictIn Plain sending.Nothing (sessions.Response n) ≡ says (response n))
     × (verdictIn Plain (sending.Acknowledged n) (sessions.Response m) ≡ both (acknowledged n) (response m))
     × (verdictIn (Asks c) (sending.Failed n) sessions.Nothing ≡ says (failed n))
@@ -81,7 +61,7 @@ pub two-are-two : (v w : Verdict) → verdictCount (both v w) ≡ 2
 two-are-two v w = refl
 
 -- abandoned said once of a send that is restarted, and twice restarted
-pub one-abandoned : abandonsFrom base sent (lent restart ∷ lent restart ∷ []) ≡ 1
+pub one-abandoned : abandonsFrom base sent07 (lent restart ∷ lent restart ∷ []) ≡ 1
 unfolding openOut restartOut frameOf fold noBody noFrame
 one-abandoned = refl
 
@@ -91,7 +71,7 @@ pub cut-finds : (frames (0x06 ∷ 0x01 ∷ 0x03 ∷ 0x00 ∷ 0x07 ∷ 0xFB ∷ 0
 cut-finds = (refl, refl)
 
 -- an answer is 06 or 15
-pub answer-either : (b : ℕ) → IsAnswer b → pick (eqb b 0x06) true (eqb b 0x15) ≡ true
+pub answer-either : (b : ℕ) → IsAnswer b → pick (eqb b ACK) true (eqb b NAK) ≡ true
 answer-either b ack = refl
 answer-either b nak = refl
 

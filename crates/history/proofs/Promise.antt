@@ -5,7 +5,7 @@ use mathlib.Core.Path.{_≡_, refl, ap, _∙_, subst}
 use mathlib.Core.List.{List}
 use lib.ListN.{length}
 use Rattle.frame.specs.Bytes.{over}
-use Rattle.frame.specs.Frame.{frameOf}
+use Rattle.frame.specs.Frame.{frameOf, REQ}
 use Rattle.rules.specs.Rules.{Rules}
 use Rattle.job.specs.declared.job.Asking.the-variants.{Plain, Asks}
 use Rattle.link.specs.Link.{freshLink}
@@ -17,9 +17,9 @@ use Rattle.link.specs.Calls.{answered as answeredBy, ran as ranBy, left, CallPr
 use Rattle.link.specs.declared.calls.Answered.{Answered}
 use Rattle.link.specs.declared.calls.Ran.{Ran}
 use Rattle.link.specs.declared.link.Link.{Link}
-use Rattle.history.specs.Perform.{byte, bytes, tick, send, session, restart, Done, doneBy, perform}
+use Rattle.history.specs.Perform.{byte, bytes, tick, send, session, restart, Done, doneBy}
 use Rattle.history.specs.History.{next, run, after}
-use Rattle.history.specs.Played.{answered, ran, Played, played, Promised, byteCall, bytesCall, tickCall, sendCall, sessionCall, restartCall, Plays, none, then, callOf, callsOf, answerOf, runAnswerOf, lineOf, upOf, Tied, AllTied}
+use Rattle.history.specs.Played.{answered, ran, Played, played, Promised, byteCall, bytesCall, tickCall, sendCall, sessionCall, restartCall, Plays, none, then, callsOf, answerOf, runAnswerOf, lineOf, upOf, AllTied, Performs}
 
 next-is : (c : Checked) (o : Out) (l : Link) → (answeredBy c o l) .link ≡ next l (doneBy c o)
 next-is Passes o l = refl
@@ -46,11 +46,6 @@ ran-answer Passes t l = refl
 ran-answer (Refuses k) t l = refl
 
 -- ---- one call
--- the link handed back is the history's next, and the call is tied to it
-pub record Does (R : Rules) (l : Link) (p : Played) (m : Link) : Type 0 where
-  pub link : m ≡ next l (perform R l (callOf p))
-  pub tied : Tied R l p
-
 -- what a call that keeps a promise with these checks and this step does, as any history does it
 pub record Matches (d : Done) (l : Link) (line up : List ℕ) (r : Answered) (line′ up′ : List ℕ) : Type 0 where
   pub link : r .link ≡ next l d
@@ -72,40 +67,40 @@ call-matches own o l line up r line′ up′ p =
 module _ (R : Rules) (l : Link) where
   -- Each call's promise, over the very text of its contract, is what the history's call does.
   pub byte-tied : (b : ℕ) (line up : List ℕ) (r : Answered) (line′ up′ : List ℕ) → CallPromise Passes (byteOut R l b) l line up r line′ up′
-      → Does R l (played (byte b) line up (answered (r .answer)) line′ up′) (r .link)
+      → Performs R l (played (byte b) line up (answered (r .answer)) line′ up′) (r .link)
   byte-tied b line up r line′ up′ p =
       let m = call-matches Passes (byteOut R l b) l line up r line′ up′ p in
       record { link = m .link; tied = record { told = ap answered (m .answer); line-left = m .line-left; up-left = m .up-left } }
 
   pub tick-tied : (line up : List ℕ) (r : Answered) (line′ up′ : List ℕ) → CallPromise Passes (tickOut R l) l line up r line′ up′
-      → Does R l (played tick line up (answered (r .answer)) line′ up′) (r .link)
+      → Performs R l (played tick line up (answered (r .answer)) line′ up′) (r .link)
   tick-tied line up r line′ up′ p =
       let m = call-matches Passes (tickOut R l) l line up r line′ up′ p in
       record { link = m .link; tied = record { told = ap answered (m .answer); line-left = m .line-left; up-left = m .up-left } }
 
   pub send-tied : (kind command : ℕ) (ps line up : List ℕ) (r : Answered) (line′ up′ : List ℕ)
       → CallPromise (sendOwn (l .core .job) kind (length ps)) (openOut l Plain (frameOf kind command ps)) l line up r line′ up′
-      → Does R l (played (send kind command ps) line up (answered (r .answer)) line′ up′) (r .link)
+      → Performs R l (played (send kind command ps) line up (answered (r .answer)) line′ up′) (r .link)
   send-tied kind command ps line up r line′ up′ p =
       let m = call-matches (sendOwn (l .core .job) kind (length ps)) (openOut l Plain (frameOf kind command ps)) l line up r line′ up′ p in
       record { link = m .link; tied = record { told = ap answered (m .answer); line-left = m .line-left; up-left = m .up-left } }
 
   pub session-tied : (command : ℕ) (ps line up : List ℕ) (r : Answered) (line′ up′ : List ℕ)
-      → CallPromise (sessionOwn (l .core .job) (length ps)) (openOut l (Asks command) (frameOf 0 command ps)) l line up r line′ up′
-      → Does R l (played (session command ps) line up (answered (r .answer)) line′ up′) (r .link)
+      → CallPromise (sessionOwn (l .core .job) (length ps)) (openOut l (Asks command) (frameOf REQ command ps)) l line up r line′ up′
+      → Performs R l (played (session command ps) line up (answered (r .answer)) line′ up′) (r .link)
   session-tied command ps line up r line′ up′ p =
-      let m = call-matches (sessionOwn (l .core .job) (length ps)) (openOut l (Asks command) (frameOf 0 command ps)) l line up r line′ up′ p in
+      let m = call-matches (sessionOwn (l .core .job) (length ps)) (openOut l (Asks command) (frameOf REQ command ps)) l line up r line′ up′ p in
       record { link = m .link; tied = record { told = ap answered (m .answer); line-left = m .line-left; up-left = m .up-left } }
 
   pub restart-tied : (line up : List ℕ) (r : Answered) (line′ up′ : List ℕ) → CallPromise Passes (restartOut l) l line up r line′ up′
-      → Does R l (played restart line up (answered (r .answer)) line′ up′) (r .link)
+      → Performs R l (played restart line up (answered (r .answer)) line′ up′) (r .link)
   restart-tied line up r line′ up′ p =
       let m = call-matches Passes (restartOut l) l line up r line′ up′ p in
       record { link = m .link; tied = record { told = ap answered (m .answer); line-left = m .line-left; up-left = m .up-left } }
 
   -- and a run of bytes
   pub run-tied : (bs line up : List ℕ) (r : Ran) (line′ up′ : List ℕ) → RunPromise (runOut R l bs) l line up r line′ up′
-      → Does R l (played (bytes bs) line up (ran (r .answer)) line′ up′) (r .link)
+      → Performs R l (played (bytes bs) line up (ran (r .answer)) line′ up′) (r .link)
   run-tied bs line up r line′ up′ p =
       let c = checks line up Passes in
       let t = runOut R l bs in
@@ -119,7 +114,7 @@ module _ (R : Rules) (l : Link) where
             };
       }
 
-  promised : (p : Played) (m : Link) → Promised R l p m → Does R l p m
+  promised : (p : Played) (m : Link) → Promised R l p m → Performs R l p m
   promised p m (byteCall b line up r line′ up′ k) = byte-tied b line up r line′ up′ k
   promised p m (bytesCall bs line up r line′ up′ k) = run-tied bs line up r line′ up′ k
   promised p m (tickCall line up r line′ up′ k) = tick-tied line up r line′ up′ k

@@ -9,7 +9,7 @@ use lib.Bits.{xor-lt}
 use lib.Dec.{ltb, eqb}
 use lib.ListN.{length, take}
 use borrow.Author.Tests.{ltb-true, ltb-false}
-use Rattle.frame.specs.Frame.{frameOf}
+use Rattle.frame.specs.Frame.{MAX_BODY, frameOf}
 use Rattle.frame.proofs.Over.{over-length}
 use Rattle.frame.proofs.Theorems.{frame-bounds}
 use Rattle.rules.specs.Rules.{Rules, Cause, told, time, base, backOffs}
@@ -149,7 +149,7 @@ sizes-keeps R =
     }
 
 -- after any history whatever
-pub body-254 : (R : Rules) (h : List Call) → length ((after R h) .body) ≡ 254
+pub body-254 : (R : Rules) (h : List Call) → length ((after R h) .body) ≡ MAX_BODY
 body-254 R h = (after-keeps R Any Sizes (sizes-keeps R) h (any-calls h)) .body
 
 -- ---- the job: idle, or open and good

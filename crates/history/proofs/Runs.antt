@@ -1,11 +1,11 @@
 -- Section 7: a run of bytes equals the same bytes given one by one, as far as it takes them.
 -- Assumes nothing.
-use Prim.Native.Nat.{ℕ, suc, _+_}
+use Prim.Native.Nat.{ℕ, _+_}
 use mathlib.Core.Path.{_≡_, refl, ap, sym, _∙_}
 use mathlib.Core.Bool.{false, false≢true}
 use mathlib.Core.List.{List, [], _∷_, _++_, append-nil, append-assoc}
 use native.Mathlib.Omega.{arith}
-use lib.ListN.{length, take, length-append}
+use lib.ListN.{take, length-append}
 use lib.Seq.{take-at}
 use Rattle.rules.specs.Rules.{Rules}
 use Rattle.hearing.specs.Hearing.{hearByte, keep}
@@ -13,22 +13,10 @@ use Rattle.link.specs.Out.{Out, Taken, byteOut, news, quiet, runFrom, runOut}
 use Rattle.job.specs.declared.job.Act.{Act}
 use Rattle.link.specs.declared.link.Link.{Link}
 use Rattle.history.specs.Received.{feed, fedLine, fedUp}
+use Rattle.history.specs.Runs.{QuietByte, QuietAll, Until, SameSender}
 use Rattle.history.proofs.Reception.{no-tick}
 use Rattle.refusals.proofs.Picks.{pick-by}
 use Rattle.history.proofs.Links.{calm-byte, calm-line}
-
--- a byte's report is no more than "nothing" or "skipped": it put out nothing and handed up nothing, and left the sender as it was
-pub record QuietByte (l : Link) (o : Out) : Type 0 where
-  pub report : news o ≡ false
-  pub line : o .line ≡ []
-  pub up : o .up ≡ []
-  pub job : o .link .core .job ≡ l .core .job
-  pub held : take (o .link .core .size) (o .link .frame) ≡ take (l .core .size) (l .frame)
-
--- so are all of these bytes, given one by one
-abbrev pub QuietAll : Rules → Link → List ℕ → Type 0
-QuietAll R l [] = Unit {0}
-QuietAll R l (b ∷ bs) = QuietByte l (byteOut R l b) × QuietAll R ((byteOut R l b) .link) bs
 
 -- on any link
 pub quiet-by-report : (R : Rules) (l : Link) (b : ℕ) → news (byteOut R l b) ≡ false → QuietByte l (byteOut R l b)
@@ -43,18 +31,6 @@ quiet-by-report R l b e =
       job = ap (λ (x : Act). x .job) (m .job);
       held = refl;
     }
-
--- "A run of bytes stops behind the first byte whose report is more than "nothing" or "skipped" and says how many were taken; its report is that of the last byte taken."
-pub record Until (R : Rules) (l : Link) (n : ℕ) (bs : List ℕ) (t : Taken) : Type 0 where
-  pub before : List ℕ
-  pub last : ℕ
-  pub behind : List ℕ
-  pub parts : bs ≡ before ++ (last ∷ behind)
-  pub quiet : QuietAll R l before
-  -- it stops only at the end or behind news
-  pub stops : news (byteOut R (feed R l before) last) ≡ false → behind ≡ []
-  pub taken : t .taken ≡ n + suc (length before)
-  pub out : t .out ≡ byteOut R (feed R l before) last
 
 until : (R : Rules) (bs : List ℕ) (b n : ℕ) (o : Out) → Until R (o .link) n (b ∷ bs) (runFrom R o n (b ∷ bs))
 unfolding runFrom
@@ -135,10 +111,6 @@ run-ups R l (b ∷ bs) =
     ∙ ap (fedUp R l) (sym (taken-is R l (b ∷ bs) (runOut R l (b ∷ bs)) u))
 
 -- the sender behind quiet bytes is the one before them
-pub record SameSender (l l′ : Link) : Type 0 where
-  pub job : l′ .core .job ≡ l .core .job
-  pub held : take (l′ .core .size) (l′ .frame) ≡ take (l .core .size) (l .frame)
-
 pub quiet-sender : (R : Rules) (bs : List ℕ) (l : Link) → QuietAll R l bs → SameSender l (feed R l bs)
 quiet-sender R [] l q = record { job = refl; held = refl }
 quiet-sender R (b ∷ bs) l q =

@@ -8,10 +8,11 @@ use native.Mathlib.Omega.{arith}
 use lib.Dec.{ltb, eqb}
 use lib.ListN.{take}
 use borrow.Author.Tests.{ltb-true, ltb-false, lt-ltb, le-ltb, eq-eqb, ne-eqb}
+use Rattle.frame.specs.Frame.{ACK, NAK, MIN_LENGTH}
 use Rattle.refusals.specs.Pick.{pick}
 use Rattle.rules.specs.Rules.{Rules}
 use Rattle.hearing.specs.Hearing.{heard, hearByte, hearTick, begun, more, ended}
-use Rattle.job.specs.Job.{nextCopy, putOut}
+use Rattle.job.specs.Job.{putOut}
 use Rattle.job.specs.Ticks.{onTick, onAbort}
 use Rattle.sending.specs.Events.{release, awaits, onEnd, onEvent, awaitedBy}
 use Rattle.reception.specs.Said.{replyBytes, saidEnd, saidOn}
@@ -31,65 +32,24 @@ use Rattle.report.specs.declared.Reception.the-variants as reception
 use Rattle.reception.specs.declared.said.Reply.{Reply}
 use Rattle.reception.specs.declared.said.Reply.the-variants as reply
 use Rattle.report.specs.declared.Reset.the-variants as reset
-use Rattle.report.specs.declared.Sending.{Sending}
 use Rattle.report.specs.declared.Sending.the-variants as sending
 use Rattle.report.specs.declared.Session.the-variants as session
 use Rattle.link.specs.declared.link.Link.{Link}
 use Rattle.history.specs.Ranges.{IsInside}
+use Rattle.history.specs.Section11.{clockOf, NothingOrCopy, EndsAs, InFrame, on, ends, Ticked, counts, aborts, GoesOut, endAnswer, DueByte, stays, leaves, DueTick, AtMostCopy, nothing, held}
 use Rattle.refusals.proofs.Picks.{pick-by, pick-ok}
-
-abbrev pub clockOf : Hearing → ℕ
-clockOf Hunting = 0
-clockOf (Head c) = c
-clockOf (Body p) = p .clock
 
 -- ---- what a byte inside a frame can be
 data InsideByte (h : Hearing) : Heard → Type 0 where
   atLength : {h′ : Hearing} → IsInside h′ → clockOf h′ ≡ clockOf h → InsideByte h (heard h′ Inside)
   atBody : {h′ : Hearing} (at : ℕ) → IsInside h′ → clockOf h′ ≡ clockOf h → InsideByte h (heard h′ (Kept at))
-  ends : (e : End) → InsideByte h (heard Hunting (Ended e))
+  atEnd : (e : End) → InsideByte h (heard Hunting (Ended e))
 
 inside-byte : (b : ℕ) (h : Hearing) → IsInside h → InsideByte h (hearByte b h)
 inside-byte b Hunting i = absurd i
-inside-byte b (Head c) i = pick-ok (InsideByte (Head c)) (ltb b 3) _ _ (ends end.BadLength) (atLength tt refl)
+inside-byte b (Head c) i = pick-ok (InsideByte (Head c)) (ltb b 3) _ _ (atEnd end.BadLength) (atLength tt refl)
 inside-byte b (Body p) i =
-    pick-ok (InsideByte (Body p)) (ltb (p .at) (p .size)) _ _ (atBody (p .at) tt refl) (ends (pick (eqb b (p .sum)) (ended p) end.BadSum))
-
--- the byte leaves the frame unended: nothing is said, put out or handed up, and the job is the same
-pub record GoesOn (l : Link) (o : Out) : Type 0 where
-  pub inside : IsInside (o .link .core .hearing)
-  -- "Starting the frame clock again at each byte: a slow line never aborts." It does not start again.
-  pub clock : clockOf (o .link .core .hearing) ≡ clockOf (l .core .hearing)
-  pub job : o .link .core .job ≡ l .core .job
-  pub sending : o .sending ≡ sending.Nothing
-  pub session : o .session ≡ session.Nothing
-  pub reception : o .reception ≡ reception.Nothing
-  pub reset : o .reset ≡ reset.Nothing
-  pub line : o .line ≡ []
-  pub up : o .up ≡ []
-
--- the sender says nothing, or puts out the copy that was due
-abbrev pub NothingOrCopy : Sending → Type 0
-NothingOrCopy sending.Nothing = Unit {0}
-NothingOrCopy sending.Stray = ⊥
-NothingOrCopy sending.Due = ⊥
-NothingOrCopy (sending.Copy n) = Unit {0}
-NothingOrCopy (sending.BackingOff t) = ⊥
-NothingOrCopy (sending.Acknowledged n) = ⊥
-NothingOrCopy (sending.Failed n) = ⊥
-NothingOrCopy sending.Abandoned = ⊥
-
--- the byte ends the frame as e
-pub record EndsAs (l : Link) (o : Out) (e : End) : Type 0 where
-  pub hunting : o .link .core .hearing ≡ Hunting
-  pub sending : NothingOrCopy (o .sending)
-  pub reception : o .reception ≡ (saidEnd e (awaitedBy (l .core .job))) .reception
-  -- a send that waits for its ACK waits on, whatever the byte is: a Checksum of 06, too
-  pub waits : (a : Asking) (n t : ℕ) → l .core .job ≡ Waiting a n t → o .link .core .job ≡ Waiting a n t
-
-pub data InFrame (l : Link) (o : Out) : Type 0 where
-  on : GoesOn l o → InFrame l o
-  ends : (e : End) → EndsAs l o e → InFrame l o
+    pick-ok (InsideByte (Body p)) (ltb (p .at) (p .size)) _ _ (atBody (p .at) tt refl) (atEnd (pick (eqb b (p .sum)) (ended p) end.BadSum))
 
 release-says : (j : Job) → NothingOrCopy ((release j) .sending)
 release-says Idle = tt
@@ -120,53 +80,33 @@ in-frame R l b r (atLength i c) =
     on (record { inside = i; clock = c; job = refl; sending = refl; session = refl; reception = refl; reset = refl; line = refl; up = refl })
 in-frame R l b r (atBody at i c) =
     on (record { inside = i; clock = c; job = refl; sending = refl; session = refl; reception = refl; reset = refl; line = refl; up = refl })
-in-frame R l b r (ends e) = ends e (ends-as R l b e)
+in-frame R l b r (atEnd e) = ends e (ends-as R l b e)
 
 -- "Taking 06 inside a body as the awaited ACK." Inside a frame no byte is taken by the sender: it leaves the job as it was and says nothing, or ends the frame, and then at most a due copy goes out, and a send that waits for its ACK waits on.
 pub inside-frame : (R : Rules) (l : Link) (b : ℕ) → IsInside (l .core .hearing) → InFrame l (byteOut R l b)
 unfolding byteOut
 inside-frame R l b i = in-frame R l b (hearByte b (l .core .hearing)) (inside-byte b (l .core .hearing) i)
 
--- ---- the clock
--- "Each tick inside a frame adds 1 to its clock. The tick that makes it 1,501 aborts the frame."
-pub data Ticked (l : Link) (o : Out) : Type 0 where
-  Passes : IsInside (o .link .core .hearing) → clockOf (o .link .core .hearing) ≡ clockOf (l .core .hearing) + 1 → clockOf (l .core .hearing) < 1500 → Ticked l o
-  aborts : o .link .core .hearing ≡ Hunting → o .reception ≡ reception.Abort → 1500 ≤ clockOf (l .core .hearing) → Ticked l o
-
 data InsideTick (h : Hearing) : Heard → Type 0 where
-  on : {h′ : Hearing} → IsInside h′ → clockOf h′ ≡ clockOf h + 1 → clockOf h < 1500 → InsideTick h (heard h′ TickInside)
-  over : 1500 ≤ clockOf h → InsideTick h (heard Hunting Aborted)
+  ticksOn : {h′ : Hearing} → IsInside h′ → clockOf h′ ≡ clockOf h + 1 → clockOf h < 1500 → InsideTick h (heard h′ TickInside)
+  ticksOver : 1500 ≤ clockOf h → InsideTick h (heard Hunting Aborted)
 
 inside-tick : (h : Hearing) → IsInside h → InsideTick h (hearTick h)
 inside-tick Hunting i = absurd i
 inside-tick (Head c) i =
-    pick-by (InsideTick (Head c)) (ltb (c + 1) 1501) _ _ (λ e. let v : c + 1 < 1501 = ltb-true _ _ e in on tt refl (omega arith))
-    (λ e. let v : 1501 ≤ c + 1 = ltb-false _ _ e in over (omega arith))
+    pick-by (InsideTick (Head c)) (ltb (c + 1) 1501) _ _ (λ e. let v : c + 1 < 1501 = ltb-true _ _ e in ticksOn tt refl (omega arith))
+    (λ e. let v : 1501 ≤ c + 1 = ltb-false _ _ e in ticksOver (omega arith))
 inside-tick (Body p) i =
-    pick-by (InsideTick (Body p)) (ltb (p .clock + 1) 1501) _ _ (λ e. let v : p .clock + 1 < 1501 = ltb-true _ _ e in on tt refl (omega arith))
-    (λ e. let v : 1501 ≤ p .clock + 1 = ltb-false _ _ e in over (omega arith))
+    pick-by (InsideTick (Body p)) (ltb (p .clock + 1) 1501) _ _ (λ e. let v : p .clock + 1 < 1501 = ltb-true _ _ e in ticksOn tt refl (omega arith))
+    (λ e. let v : 1501 ≤ p .clock + 1 = ltb-false _ _ e in ticksOver (omega arith))
 
 ticked : (R : Rules) (l : Link) (r : Heard) → InsideTick (l .core .hearing) r → Ticked l (heardOut R (l .core) (l .body) (l .frame) r)
-ticked R l r (on i c k) = Passes i c k
-ticked R l r (over k) = aborts refl refl k
+ticked R l r (ticksOn i c k) = counts i c k
+ticked R l r (ticksOver k) = aborts refl refl k
 
 pub inside-ticks : (R : Rules) (l : Link) → IsInside (l .core .hearing) → Ticked l (tickOut R l)
 unfolding tickOut
 inside-ticks R l i = ticked R l (hearTick (l .core .hearing)) (inside-tick (l .core .hearing) i)
-
--- ---- "Dropping a copy that came due inside a frame." The call that ends the reception, whichever end it is, puts it out behind the 06 or 15, if there is one.
-pub record GoesOut (a : Asking) (n : ℕ) (answer : List ℕ) (l : Link) (o : Out) : Type 0 where
-  pub line : o .line ≡ answer ++ take (l .core .size) (l .frame)
-  pub sending : o .sending ≡ sending.Copy (nextCopy n)
-  pub job : o .link .core .job ≡ Waiting a (nextCopy n) 0
-
--- what a frame's end is answered with: "Checksum right: put out 06. Checksum wrong: put out 15. Length below 3: no byte is put out."
-abbrev pub answerTo : End → List ℕ
-answerTo end.BadLength = []
-answerTo end.BadSum = 21 ∷ []
-answerTo end.Reserved = 6 ∷ []
-answerTo (end.Request size) = 6 ∷ []
-answerTo (end.Response size command) = 6 ∷ []
 
 goes-out : (R : Rules) (l : Link) (body answer : List ℕ) (a : Asking) (n : ℕ) (r : Heard) → replyBytes ((saidOn (r .event) (awaitedBy (l .core .job))) .reply) ≡ answer
     → onEvent R (l .core .size) (r .event) (l .core .job) ≡ putOut a n → GoesOut a n answer l (heardOut R (l .core) body (l .frame) r)
@@ -179,7 +119,7 @@ goes-out R l body answer a n r s x =
       job = ap (λ (y : Act). y .job) x;
     }
 
-pub end-reply : (e : End) (j : Job) → replyBytes ((saidEnd e (awaitedBy j)) .reply) ≡ answerTo e
+pub end-reply : (e : End) (j : Job) → replyBytes ((saidEnd e (awaitedBy j)) .reply) ≡ endAnswer e
 end-reply end.BadLength j = refl
 end-reply end.BadSum j = refl
 end-reply end.Reserved j = refl
@@ -193,42 +133,26 @@ end-puts end.Reserved a n = refl
 end-puts (end.Request size) a n = refl
 end-puts (end.Response size command) a n = refl
 
--- a byte inside a frame, with a copy due
-pub data DueByte (a : Asking) (n : ℕ) (l : Link) (o : Out) : Type 0 where
-  stays : GoesOn l o → DueByte a n l o
-  leaves : (e : End) → EndsAs l o e → GoesOut a n (answerTo e) l o → DueByte a n l o
-
 due-in-frame : (R : Rules) (l : Link) (b : ℕ) (a : Asking) (n : ℕ) (r : Heard) → l .core .job ≡ Due a n → InsideByte (l .core .hearing) r → DueByte a n l (byteBy R l b r)
 due-in-frame R l b a n r q (atLength i c) =
     stays (record { inside = i; clock = c; job = refl; sending = refl; session = refl; reception = refl; reset = refl; line = refl; up = refl })
 due-in-frame R l b a n r q (atBody at i c) =
     stays (record { inside = i; clock = c; job = refl; sending = refl; session = refl; reception = refl; reset = refl; line = refl; up = refl })
-due-in-frame R l b a n r q (ends e) =
-    leaves e (ends-as R l b e) (goes-out R l (l .body) (answerTo e) a n (heard Hunting (Ended e)) (end-reply e (l .core .job)) (ap (onEnd e) q ∙ end-puts e a n))
+due-in-frame R l b a n r q (atEnd e) =
+    leaves e (ends-as R l b e) (goes-out R l (l .body) (endAnswer e) a n (heard Hunting (Ended e)) (end-reply e (l .core .job)) (ap (onEnd e) q ∙ end-puts e a n))
 
 pub due-byte : (R : Rules) (l : Link) (b : ℕ) (a : Asking) (n : ℕ) → l .core .job ≡ Due a n → IsInside (l .core .hearing) → DueByte a n l (byteOut R l b)
 unfolding byteOut
 due-byte R l b a n q i = due-in-frame R l b a n (hearByte b (l .core .hearing)) q (inside-byte b (l .core .hearing) i)
 
--- and a tick: the copy stays due inside the frame, or goes out by the abort
-pub data DueTick (a : Asking) (n : ℕ) (l : Link) (o : Out) : Type 0 where
-  stays : IsInside (o .link .core .hearing) → o .link .core .job ≡ Due a n → DueTick a n l o
-  leaves : o .reception ≡ reception.Abort → GoesOut a n [] l o → DueTick a n l o
-
 due-in-tick : (R : Rules) (l : Link) (a : Asking) (n : ℕ) (r : Heard) → l .core .job ≡ Due a n → InsideTick (l .core .hearing) r
     → DueTick a n l (heardOut R (l .core) (l .body) (l .frame) r)
-due-in-tick R l a n r q (on i c k) = stays i (ap (λ (j : Job). (onTick R (l .core .size) false j) .job) q)
-due-in-tick R l a n r q (over k) = leaves refl (goes-out R l (l .body) [] a n (heard Hunting Aborted) refl (ap (onAbort R (l .core .size)) q))
+due-in-tick R l a n r q (ticksOn i c k) = stays i (ap (λ (j : Job). (onTick R (l .core .size) false j) .job) q)
+due-in-tick R l a n r q (ticksOver k) = leaves refl (goes-out R l (l .body) [] a n (heard Hunting Aborted) refl (ap (onAbort R (l .core .size)) q))
 
 pub due-tick : (R : Rules) (l : Link) (a : Asking) (n : ℕ) → l .core .job ≡ Due a n → IsInside (l .core .hearing) → DueTick a n l (tickOut R l)
 unfolding tickOut
 due-tick R l a n q i = due-in-tick R l a n (hearTick (l .core .hearing)) q (inside-tick (l .core .hearing) i)
-
--- ---- the answers
--- bytes that are a copy of the held frame, or none
-pub data AtMostCopy (l : Link) : List ℕ → Type 0 where
-  nothing : AtMostCopy l []
-  held : AtMostCopy l (take (l .core .size) (l .frame))
 
 pub at-most : (l : Link) (c : Bool) → AtMostCopy l (pick c (take (l .core .size) (l .frame)) [])
 at-most l c = pick-ok (AtMostCopy l) c _ _ held nothing
@@ -251,20 +175,20 @@ pub tick-answers : (R : Rules) (l : Link) → AtMostCopy l ((tickOut R l) .line)
 unfolding tickOut
 tick-answers R l = tick-puts R l (hearTick (l .core .hearing)) (tick-silent (l .core .hearing))
 
--- the byte that ends a frame is answered as answerTo says, and behind that stands a copy or nothing
+-- the byte that ends a frame is answered as endAnswer says, and behind that stands a copy or nothing
 pub record Answers (l : Link) (o : Out) (e : End) : Type 0 where
   pub behind : List ℕ
   pub copy : AtMostCopy l behind
-  pub line : o .line ≡ answerTo e ++ behind
+  pub line : o .line ≡ endAnswer e ++ behind
 
 end-answers : (R : Rules) (l : Link) (b : ℕ) (e : End) → Answers l (byteBy R l b (heard Hunting (Ended e))) e
 end-answers R l b e =
     let c = (onEnd e (l .core .job)) .copy in
     record { behind = pick c (take (l .core .size) (l .frame)) []; copy = at-most l c; line = ap (λ (y : List ℕ). y ++ pick c (take (l .core .size) (l .frame)) []) (end-reply e (l .core .job)) }
 
-right-is : (p : Partial) → answerTo (ended p) ≡ 6 ∷ []
+right-is : (p : Partial) → endAnswer (ended p) ≡ 6 ∷ []
 right-is p =
-    pick-ok (λ (e : End). answerTo e ≡ 6 ∷ []) (eqb (p .kind) 0) _ _ refl (pick-ok (λ (e : End). answerTo e ≡ 6 ∷ []) (eqb (p .kind) 1) _ _ refl refl)
+    pick-ok (λ (e : End). endAnswer e ≡ 6 ∷ []) (eqb (p .kind) 0) _ _ refl (pick-ok (λ (e : End). endAnswer e ≡ 6 ∷ []) (eqb (p .kind) 1) _ _ refl refl)
 
 pub byte-at : (R : Rules) (l : Link) (b : ℕ) (h : Hearing) → l .core .hearing ≡ h → byteOut R l b ≡ byteBy R l b (hearByte b h)
 unfolding byteOut
@@ -279,7 +203,7 @@ checked R l b p q k =
 
 -- "Checksum right: put out 06", whatever the Type
 pub right-answer : (R : Rules) (l : Link) (b : ℕ) (p : Partial) → l .core .hearing ≡ Body p → p .size ≤ p .at → b ≡ p .sum
-    → (behind : List ℕ) × AtMostCopy l behind × ((byteOut R l b) .line ≡ 6 ∷ behind)
+    → (behind : List ℕ) × AtMostCopy l behind × ((byteOut R l b) .line ≡ ACK ∷ behind)
 right-answer R l b p q k e =
     let w = end-answers R l b (ended p) in
     let o : byteOut R l b ≡ byteBy R l b (heard Hunting (Ended (ended p))) =
@@ -288,7 +212,7 @@ right-answer R l b p q k e =
 
 -- "Checksum wrong: put out 15, report bad sum", and nothing is handed up
 pub wrong-answer : (R : Rules) (l : Link) (b : ℕ) (p : Partial) → l .core .hearing ≡ Body p → p .size ≤ p .at → (b ≡ p .sum → ⊥)
-    → (behind : List ℕ) × AtMostCopy l behind × ((byteOut R l b) .line ≡ 21 ∷ behind) × ((byteOut R l b) .reception ≡ reception.BadSum) × ((byteOut R l b) .up ≡ [])
+    → (behind : List ℕ) × AtMostCopy l behind × ((byteOut R l b) .line ≡ NAK ∷ behind) × ((byteOut R l b) .reception ≡ reception.BadSum) × ((byteOut R l b) .up ≡ [])
 wrong-answer R l b p q k e =
     let w = end-answers R l b end.BadSum in
     let o : byteOut R l b ≡ byteBy R l b (heard Hunting (Ended end.BadSum)) =
@@ -296,7 +220,7 @@ wrong-answer R l b p q k e =
     (w .behind, w .copy, ap (λ (x : Out). x .line) o ∙ w .line, ap (λ (x : Out). x .reception) o, ap (λ (x : Out). x .up) o)
 
 -- "Length below 3: report bad length, hunt again. No byte is put out" but a due copy
-pub short-answer : (R : Rules) (l : Link) (b c : ℕ) → l .core .hearing ≡ Head c → b < 3
+pub short-answer : (R : Rules) (l : Link) (b c : ℕ) → l .core .hearing ≡ Head c → b < MIN_LENGTH
     → AtMostCopy l ((byteOut R l b) .line) × ((byteOut R l b) .reception ≡ reception.BadLength) × ((byteOut R l b) .link .core .hearing ≡ Hunting)
 short-answer R l b c q k =
     let o : byteOut R l b ≡ byteBy R l b (heard Hunting (Ended end.BadLength)) =

@@ -5,8 +5,8 @@ use mathlib.Core.Path.{_≡_, refl}
 use mathlib.Core.List.{List}
 use native.Mathlib.Omega.{arith}
 use lib.ListN.{length}
-use Rattle.frame.specs.Frame.{frameOf}
-use Rattle.rules.specs.Rules.{Rules, Cause, told, time, base}
+use Rattle.frame.specs.Frame.{frameOf, REQ}
+use Rattle.rules.specs.Rules.{Rules, base}
 use Rattle.job.specs.declared.job.Asking.{Asking}
 use Rattle.job.specs.declared.job.Asking.the-variants.{Plain, Asks}
 use Rattle.link.specs.Out.{Out}
@@ -14,7 +14,7 @@ use Rattle.history.specs.Perform.{send, session, Call, took, perform}
 use Rattle.history.specs.History.{after, ticksIn, restartsIn}
 use Rattle.history.specs.Cut.{frames}
 use Rattle.history.specs.Watch.{failed, notSent, Watch, going, gone, ended, watched, verdictsFrom, linesFrom, verdictsBy}
-use Rattle.history.specs.Bound.{Fits}
+use Rattle.history.specs.Bound.{Fits, toldLonger}
 use Rattle.history.specs.Demand3.{Open, Ended, Kept, Spent, IsOver, NotGone, Demand3, HasVerdict, sendBound, sessionBound}
 use Rattle.history.proofs.Demand3.{base-send, base-session}
 
@@ -41,9 +41,9 @@ send-has-verdict h k line up kind command ps o e t r =
 -- any session, by the 20,700th
 pub session-has-verdict : (h k : List Call) (line up command : ℕ) (ps : List ℕ) (o : Out)
     → perform base (after base h) (record { what = session command ps; line = line; up = up }) ≡ took o
-    → sessionBound ≤ ticksIn base (o .link) k → restartsIn base (o .link) k ≡ 0 → HasVerdict base (Asks command) (frameOf 0 command ps) sessionBound o k
+    → sessionBound ≤ ticksIn base (o .link) k → restartsIn base (o .link) k ≡ 0 → HasVerdict base (Asks command) (frameOf REQ command ps) sessionBound o k
 session-has-verdict h k line up command ps o e t r =
-    has-verdict base (Asks command) (frameOf 0 command ps) sessionBound o k (base-session h k line up command ps o e) t r
+    has-verdict base (Asks command) (frameOf REQ command ps) sessionBound o k (base-session h k line up command ps o e) t r
 
 -- A failure follows exactly four: failed, and not sent.
 pub failed-four : (a : Asking) (f : List ℕ) (bound n t : ℕ) (l : List ℕ) → Ended a f bound (failed n) t l → n ≡ 4
@@ -61,9 +61,5 @@ pub four-while-open : (f : List ℕ) (bound t : ℕ) (l : List ℕ) → Open f b
 four-while-open f bound t l e = e .few
 
 -- Rules whose back-off by 15 or 18 is one longer than by time fit, with the shorter for g.
-abbrev toldLonger : Cause → ℕ → ℕ
-toldLonger told n = 1
-toldLonger time n = 0
-
 pub one-longer-fits : Fits (record { wait = λ size. 1; back = toldLonger }) (λ n. 0)
 one-longer-fits = record { wait = λ size. omega arith; late = λ n. omega arith; early = λ n. omega arith }

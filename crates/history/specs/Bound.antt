@@ -1,7 +1,7 @@
 -- The bound of demand 3, for any rules of sending: how long a send or session can last.
 -- Assumes nothing.
 use Prim.Native.Nat.{ℕ, zero, suc, _+_, _≤_, _<_}
-use Rattle.rules.specs.Rules.{Rules, told, time}
+use Rattle.rules.specs.Rules.{Rules, Cause, told, time}
 use Rattle.job.specs.declared.job.Asking.{Asking}
 use Rattle.job.specs.declared.job.Asking.the-variants.{Plain, Asks}
 
@@ -27,3 +27,8 @@ extra (Asks c) = 4999
 -- a frame's time, a wait, and what comes after copy 1 is lost
 abbrev pub bound : Rules → (ℕ → ℕ) → Asking → ℕ → ℕ
 bound R g a size = 1501 + (R .wait size + tail (R .wait size) g 1 + extra a)
+
+-- back-offs of which the one by 15 or 18 is one longer than the one by time
+abbrev pub toldLonger : Cause → ℕ → ℕ
+toldLonger told n = 1
+toldLonger time n = 0

@@ -6,6 +6,9 @@ pub mod Watch
 pub mod Bound
 pub mod Ranges
 pub mod Demand3
+pub mod Counts
 pub mod Received
+pub mod Runs
 pub mod HandedUp
+pub mod Section11
 pub mod Whole

@@ -3,7 +3,7 @@
 use Prim.Native.Nat.{ℕ}
 use mathlib.Core.List.{List}
 use lib.ListN.{length}
-use Rattle.frame.specs.Frame.{frameOf, REQ}
+use Rattle.frame.specs.Frame.{frameOf, REQ, MAX_BODY, LINE_ROOM}
 use Rattle.refusals.specs.declared.Refusal.{Refusal}
 use Rattle.rules.specs.Rules.{Rules}
 use Rattle.link.specs.Out.{Out, byteOut, tickOut, openOut, restartOut, runOut}
@@ -26,6 +26,10 @@ pub record Call : Type 0 where
   pub what : What
   pub line : ℕ
   pub up : ℕ
+
+-- with 258 bytes lent for the line and 254 for the frame handed up
+abbrev pub lent : What → Call
+lent w = record { what = w; line = LINE_ROOM; up = MAX_BODY }
 
 -- behind ROOM: send goes on with BUSY, KIND, LONG; session with BUSY, LONG; the others have no other refusal
 abbrev pub checksOf : Link → What → Checked

@@ -100,7 +100,12 @@ pub record Tied (R : Rules) (l : Link) (p : Played) : Type 0 where
   pub line-left : p .line′ ≡ over (lineOf (perform R l (callOf p))) (p .line)
   pub up-left : p .up′ ≡ over (upOf (perform R l (callOf p))) (p .up)
 
--- and so is every one of them
+-- the link handed back is the history's next, and the call is tied to it
+pub record Performs (R : Rules) (l : Link) (p : Played) (m : Link) : Type 0 where
+  pub link : m ≡ next l (perform R l (callOf p))
+  pub tied : Tied R l p
+
+-- every one of these calls is played so
 abbrev pub AllTied : Rules → Link → List Played → Type 0
 AllTied R l [] = Unit {0}
 AllTied R l (p ∷ ps) = Tied R l p × AllTied R (next l (perform R l (callOf p))) ps

@@ -7,12 +7,12 @@ use lib.Dec.{eqb}
 use lib.ListN.{length, take}
 use Rattle.refusals.specs.Pick.{pick}
 use Rattle.refusals.specs.declared.Refusal.the-variants as refusal
-use Rattle.reading.specs.Reader.{parametersOf}
+use Rattle.reading.specs.Reader.{parametersOf, read}
 use Rattle.reading.specs.declared.reader.Reading.{Reading}
 use Rattle.reading.specs.declared.reader.Reading.the-variants.{Refused, Parts}
 use Rattle.rules.specs.Rules.{Rules}
 use Rattle.sending.specs.Events.{awaits}
-use Rattle.link.specs.Out.{Out}
+use Rattle.link.specs.Out.{Out, Taken}
 use Rattle.hearing.specs.declared.hearing.Hearing.the-variants.{Hunting}
 use Rattle.job.specs.declared.job.Job.{Job}
 use Rattle.job.specs.declared.job.Job.the-variants.{Idle, Due, Waiting, BackingOff, Awaiting}
@@ -22,6 +22,7 @@ use Rattle.link.specs.declared.link.Link.{Link}
 use Rattle.history.specs.Perform.{Call, perform}
 use Rattle.history.specs.History.{next, run, ticksIn, restartsIn}
 use Rattle.history.specs.Received.{takenBy, ifTaken, received}
+use Rattle.history.specs.Section11.{AtMostCopy}
 use Rattle.frame.specs.Frame.{START, REQ, ACK, NAK, MIN_LENGTH}
 
 -- ---- the bytes
@@ -94,3 +95,19 @@ EndsBy j held xs (Parts kind command n) o = Ending j held (frameReport kind comm
 -- of a call on the link l that takes the last of the bytes xs and gives o
 abbrev pub AsRead : Link → List ℕ → Reading → Out → Type 0
 AsRead l xs r o = EndsBy (l .core .job) (take (l .core .size) (l .frame)) xs r o
+
+-- a run that gives this took n bytes, and its last ended the frame as read
+pub record RunAsRead (l : Link) (xs : List ℕ) (n : ℕ) (t : Taken) : Type 0 where
+  pub taken : t .taken ≡ n
+  pub out : AsRead l xs (read xs) (t .out)
+
+-- The frame that `build` gives, byte by byte: what the byte of the Checksum does, on the link l that the first byte came to.
+pub record Receives (l : Link) (kind command : ℕ) (ps : List ℕ) (o : Out) : Type 0 where
+  pub hunting : o .link .core .hearing ≡ Hunting
+  -- "A frame handed up is reported as the frame end, or as stray response in its place."
+  pub reception : o .reception ≡ frameReport kind command (l .core .job)
+  -- "Checksum right, Type 00 or 01: put out 06 and hand up the body."
+  pub up : o .up ≡ kind ∷ command ∷ ps
+  pub behind : List ℕ
+  pub copy : AtMostCopy l behind
+  pub line : o .line ≡ ACK ∷ behind

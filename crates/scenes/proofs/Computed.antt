@@ -3,7 +3,7 @@
 use mathlib.Core.Path.{refl}
 use mathlib.Core.List.{[]}
 use Rattle.frame.specs.Bytes.{fold}
-use Rattle.frame.specs.Frame.{frameOf}
+use Rattle.frame.specs.Frame.{frameOf, REQ}
 use Rattle.rules.specs.Rules.{base}
 use Rattle.link.specs.Link.{noBody, noFrame}
 use Rattle.link.specs.Out.{byteOut, tickOut, openOut}
@@ -15,10 +15,10 @@ use Rattle.history.specs.Demand3.{sendBound, sessionBound}
 use Rattle.scenes.specs.Table.{frame07}
 use Rattle.scenes.specs.Longest.{before, longestSend, longestSession, Reaches}
 
-pub send07-reaches : Reaches base before (send 0 7 []) Plain (longestSend base 5) frame07 (failed 4) sendBound
+pub send07-reaches : Reaches base before (send REQ 0x07 []) Plain (longestSend base 5) frame07 (failed 4) sendBound
 unfolding byteOut tickOut openOut frameOf fold noBody noFrame
-send07-reaches = record { gave = outOf base (after base before) (send 0 7 []); accepted = refl; verdict = refl }
+send07-reaches = record { gave = outOf base (after base before) (send REQ 0x07 []); accepted = refl; verdict = refl }
 
-pub session07-reaches : Reaches base before (session 7 []) (Asks 7) (longestSession base 5) frame07 (noResponse 4) sessionBound
+pub session07-reaches : Reaches base before (session 0x07 []) (Asks 0x07) (longestSession base 5) frame07 (noResponse 4) sessionBound
 unfolding byteOut tickOut openOut frameOf fold noBody noFrame
-session07-reaches = record { gave = outOf base (after base before) (session 7 []); accepted = refl; verdict = refl }
+session07-reaches = record { gave = outOf base (after base before) (session 0x07 []); accepted = refl; verdict = refl }

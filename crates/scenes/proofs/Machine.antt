@@ -5,6 +5,7 @@ use mathlib.Core.Path.{_≡_, refl}
 use mathlib.Core.Bool.{Bool}
 use native.Mathlib.Omega.{arith}
 use borrow.Author.Tests.{lt-ltb, le-ltb, eq-eqb, ne-eqb}
+use Rattle.frame.specs.Frame.{START, RES, ACK, NAK, CAN, MIN_LENGTH}
 use Rattle.rules.specs.Rules.{base}
 use Rattle.hearing.specs.Hearing.{heard, begun, more, ended, later, hearByte, hearTick}
 use Rattle.hearing.specs.declared.hearing.Partial.{Partial}
@@ -92,11 +93,11 @@ pub body-counts : (p : Partial) → p .clock + 1 < 1_501 → hearTick (Body p) �
 body-counts p h = rw (lt-ltb (p .clock + 1) 1_501 h)
 
 -- "any other byte"
-pub other-skipped : (b : ℕ) → (b ≡ 0x01 → ⊥) → (b ≡ 0x06 → ⊥) → (b ≡ 0x15 → ⊥) → (b ≡ 0x18 → ⊥) → hearByte b Hunting ≡ heard Hunting Skipped
+pub other-skipped : (b : ℕ) → (b ≡ START → ⊥) → (b ≡ ACK → ⊥) → (b ≡ NAK → ⊥) → (b ≡ CAN → ⊥) → hearByte b Hunting ≡ heard Hunting Skipped
 other-skipped b h₁ h₂ h₃ h₄ = rw (ne-eqb b 0x01 h₁, ne-eqb b 0x06 h₂, ne-eqb b 0x15 h₃, ne-eqb b 0x18 h₄)
 
 -- "Length 03 to FF"
-pub length-begins : (c b : ℕ) → 3 ≤ b → hearByte b (Head c) ≡ heard (Body (begun c b)) Inside
+pub length-begins : (c b : ℕ) → MIN_LENGTH ≤ b → hearByte b (Head c) ≡ heard (Body (begun c b)) Inside
 length-begins c b h = rw (le-ltb b 3 h)
 
 -- "a body byte", "the right Checksum", "a wrong Checksum": any frame
@@ -110,7 +111,7 @@ pub wrong-sum : (p : Partial) (b : ℕ) → p .size ≤ p .at → (b ≡ p .sum 
 wrong-sum p b h k = rw (le-ltb (p .at) (p .size) h, ne-eqb b (p .sum) k)
 
 -- "Type 02 to FF"
-pub type-reserved : (p : Partial) → 2 ≤ p .kind → ended p ≡ Reserved
+pub type-reserved : (p : Partial) → RES < p .kind → ended p ≡ Reserved
 type-reserved p h = rw (ne-eqb (p .kind) 0 (λ z. omega arith), ne-eqb (p .kind) 1 (λ z. omega arith))
 
 -- "awaited", "not awaited"

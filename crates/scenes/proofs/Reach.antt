@@ -13,7 +13,7 @@ use lib.Seq.{take-append-seam}
 use borrow.Author.Tests.{lt-ltb, le-ltb, ne-eqb}
 use Rattle.refusals.proofs.Picks.{pick-ok}
 use Rattle.frame.specs.Bytes.{over}
-use Rattle.frame.specs.Frame.{frameOf}
+use Rattle.frame.specs.Frame.{REQ, RES, ACK, MAX_PARAMETERS, frameOf}
 use Rattle.rules.specs.Rules.{Rules, time, base}
 use Rattle.job.specs.Job.{goesOn, still, putOut, fail}
 use Rattle.job.specs.Ticks.{onTick}
@@ -35,13 +35,13 @@ use Rattle.report.specs.declared.Sending.{Sending}
 use Rattle.report.specs.declared.Sending.the-variants as sending
 use Rattle.report.specs.declared.Session.the-variants as session
 use Rattle.link.specs.declared.link.Link.{Link}
-use Rattle.history.specs.Perform.{byte, tick, send, session as sessionCall, Call}
+use Rattle.history.specs.Perform.{byte, tick, send, session as sessionCall, Call, lent}
 use Rattle.history.specs.History.{after}
 use Rattle.history.specs.Watch.{Verdict, failed, noResponse, Says, none, says, sendVerdict, verdictIn, verdictOf, Watch, going, gone, ended, add, onward, watch}
 use Rattle.history.specs.Demand3.{Kept, EverySend, EverySession, sendBound, sessionBound}
 use Rattle.history.proofs.Job as jobs
-use Rattle.scenes.specs.Scene.{lent, silence}
-use Rattle.scenes.specs.Longest.{frameBegins, before, round, toFourth, longestSend, longestSession, Reaches}
+use Rattle.scenes.specs.Scene.{silence}
+use Rattle.scenes.specs.Longest.{frameBegins, before, round, toFourth, longestSend, longestSession, roundTime, fourthTime, sendTime, sessionTime, baseRound, Reaches}
 use Rattle.reception.specs.Sums.{sumsOn}
 use Rattle.sending.specs.Events.{awaitedBy}
 
@@ -196,20 +196,14 @@ module _ (R : Rules) (a : Asking) (f : List ℕ) where
   come-due n h = quiet-then (comesDue n) _ f 1500 (comes-due n) (aborts n h)
 
   -- ---- a round: from copy n to copy n + 1
-  abbrev roundTime : ℕ → ℕ
-  roundTime n = R .wait (length f) + (R .back time n - 1 + 1501)
-
-  abbrev fourthTime : ℕ
-  fourthTime = 1501 + (roundTime 1 + (roundTime 2 + roundTime 3))
-
   module _ (some : 0 < R .wait (length f)) (backs : (n : ℕ) → 0 < R .back time n) where
     round-leads : (n : ℕ) → n < 4
-        → Leads (at Hunting (Waiting a n 0)) (round R (length f) n) (goingOn (at Hunting (Waiting a (n + 1) 0))) (roundTime n) f
+        → Leads (at Hunting (Waiting a n 0)) (round R (length f) n) (goingOn (at Hunting (Waiting a (n + 1) 0))) (roundTime R (length f) n) f
     round-leads n h =
         then (wait-then n _ some (hunting _ _ _ (lost n (R .wait (length f) - 1) (omega arith) h (backs n)) refl))
         (then (back-then n (backs n)) (then (begins (BackingOff a n 1)) (come-due n h)))
 
-    fourth-leads : Leads (at (Head 0) (Due a 0)) (toFourth R (length f)) (goingOn (at Hunting (Waiting a 4 0))) fourthTime (f ++ (f ++ (f ++ f)))
+    fourth-leads : Leads (at (Head 0) (Due a 0)) (toFourth R (length f)) (goingOn (at Hunting (Waiting a 4 0))) (fourthTime R (length f)) (f ++ (f ++ (f ++ f)))
     fourth-leads = then due-then (then (round-leads 1 (omega arith)) (then (round-leads 2 (omega arith)) (round-leads 3 (omega arith))))
 
 -- ---- the verdicts
@@ -223,7 +217,7 @@ fails R f e h =
 
 -- 06: the session waits for the response
 acknowledged : (R : Rules) (c : ℕ) (f : List ℕ) (n e : ℕ)
-    → Leads R (Asks c) f (at R (Asks c) f Hunting (Waiting (Asks c) n e)) (lent (byte 0x06) ∷ []) (goingOn R (Asks c) f (at R (Asks c) f Hunting (Awaiting c n 0))) 0 []
+    → Leads R (Asks c) f (at R (Asks c) f Hunting (Waiting (Asks c) n e)) (lent (byte ACK) ∷ []) (goingOn R (Asks c) f (at R (Asks c) f Hunting (Awaiting c n 0))) 0 []
 unfolding byteOut
 acknowledged R c f n e = record { to = λ k. refl }
 
@@ -239,15 +233,9 @@ no-response R c f n =
     (tick-ended R (Asks c) f _ _ (noResponse n) refl refl refl)
 
 -- ---- every send and every session, for any rules with waits and back-offs
-abbrev pub sendTime : Rules → List ℕ → ℕ
-sendTime R f = fourthTime R Plain f + R .wait (length f)
-
-abbrev pub sessionTime : Rules → ℕ → List ℕ → ℕ
-sessionTime R c f = fourthTime R (Asks c) f + (R .wait (length f) - 1 + 5000)
-
 module _ (R : Rules) (backs : (n : ℕ) → 0 < R .back time n) where
-  pub send-reaches : (kind command : ℕ) (ps : List ℕ) → kind ≤ 1 → length ps ≤ 252 → 0 < R .wait (length (frameOf kind command ps))
-      → Reaches R before (send kind command ps) Plain (longestSend R (length (frameOf kind command ps))) (frameOf kind command ps) (failed 4) (sendTime R (frameOf kind command ps))
+  pub send-reaches : (kind command : ℕ) (ps : List ℕ) → kind ≤ RES → length ps ≤ MAX_PARAMETERS → 0 < R .wait (length (frameOf kind command ps))
+      → Reaches R before (send kind command ps) Plain (longestSend R (length (frameOf kind command ps))) (frameOf kind command ps) (failed 4) (sendTime R (length (frameOf kind command ps)))
   unfolding byteOut openOut
   send-reaches kind command ps k n some =
       let f = frameOf kind command ps in
@@ -257,12 +245,12 @@ module _ (R : Rules) (backs : (n : ℕ) → 0 < R .back time n) where
         verdict = finish R Plain f (f ++ (f ++ (f ++ f))) (then R Plain f (fourth-leads R Plain f some backs) (wait-then R Plain f 4 _ some (fails R f _ (omega arith))));
       }
 
-  pub session-reaches : (command : ℕ) (ps : List ℕ) → length ps ≤ 252 → 0 < R .wait (length (frameOf 0 command ps))
-      → Reaches R before (sessionCall command ps) (Asks command) (longestSession R (length (frameOf 0 command ps))) (frameOf 0 command ps) (noResponse 4)
-      (sessionTime R command (frameOf 0 command ps))
+  pub session-reaches : (command : ℕ) (ps : List ℕ) → length ps ≤ MAX_PARAMETERS → 0 < R .wait (length (frameOf REQ command ps))
+      → Reaches R before (sessionCall command ps) (Asks command) (longestSession R (length (frameOf REQ command ps))) (frameOf REQ command ps) (noResponse 4)
+      (sessionTime R (length (frameOf REQ command ps)))
   unfolding byteOut openOut
   session-reaches command ps n some =
-      let f = frameOf 0 command ps in
+      let f = frameOf REQ command ps in
       let a : Asking = Asks command in
       record {
         gave = openOut (after R before) a f;
@@ -278,24 +266,21 @@ base-backs : (n : ℕ) → 0 < base .back time n
 base-backs n = pick-ok (λ (k : ℕ). 0 < k) (eqb n 1) 100 _ (omega arith) (pick-ok (λ (k : ℕ). 0 < k) (eqb n 2) 1100 2100 (omega arith) (omega arith))
 
 -- in numbers: the same calls for every frame
-abbrev pub inFrame : ℕ → List Call
-inFrame quiet = silence 1600 ++ (silence quiet ++ (frameBegins ∷ silence 1501))
-
-pub longest-send-is : (size : ℕ) → longestSend base size ≡ (silence 1501 ++ (inFrame 99 ++ (inFrame 1099 ++ inFrame 2099))) ++ silence 1600
+pub longest-send-is : (size : ℕ) → longestSend base size ≡ (silence 1501 ++ (baseRound 99 ++ (baseRound 1099 ++ baseRound 2099))) ++ silence 1600
 longest-send-is size = refl
 
 pub longest-session-is : (size : ℕ)
-    → longestSession base size ≡ (silence 1501 ++ (inFrame 99 ++ (inFrame 1099 ++ inFrame 2099))) ++ (silence 1599 ++ (lent (byte 0x06) ∷ silence 5000))
+    → longestSession base size ≡ (silence 1501 ++ (baseRound 99 ++ (baseRound 1099 ++ baseRound 2099))) ++ (silence 1599 ++ (lent (byte ACK) ∷ silence 5000))
 longest-session-is size = refl
 
 -- Every send reaches its bound: failed, 4 copies, on exactly the 15,701st accepted tick.
-pub every-send-reaches : (kind command : ℕ) (ps : List ℕ) → kind ≤ 1 → length ps ≤ 252
+pub every-send-reaches : (kind command : ℕ) (ps : List ℕ) → kind ≤ RES → length ps ≤ MAX_PARAMETERS
     → Reaches base before (send kind command ps) Plain (longestSend base (length (frameOf kind command ps))) (frameOf kind command ps) (failed 4) sendBound
 every-send-reaches kind command ps k n = send-reaches base base-backs kind command ps k n (omega arith)
 
 -- Every session reaches its bound: no response, 4 copies, on exactly the 20,700th accepted tick.
-pub every-session-reaches : (command : ℕ) (ps : List ℕ) → length ps ≤ 252
-    → Reaches base before (sessionCall command ps) (Asks command) (longestSession base (length (frameOf 0 command ps))) (frameOf 0 command ps) (noResponse 4) sessionBound
+pub every-session-reaches : (command : ℕ) (ps : List ℕ) → length ps ≤ MAX_PARAMETERS
+    → Reaches base before (sessionCall command ps) (Asks command) (longestSession base (length (frameOf REQ command ps))) (frameOf REQ command ps) (noResponse 4) sessionBound
 every-session-reaches command ps n = session-reaches base base-backs command ps n (omega arith)
 
 -- So demand 3 holds with no smaller bound.

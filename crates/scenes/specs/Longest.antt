@@ -1,19 +1,20 @@
 -- The histories that reach the bounds of demand 3: each copy comes due inside a frame that has just begun, and waits for its abort.
 -- Assumes nothing.
-use Prim.Native.Nat.{ℕ, _-_}
+use Prim.Native.Nat.{ℕ, _+_, _-_}
 use mathlib.Core.Path.{_≡_}
 use mathlib.Core.List.{List, [], _∷_, _++_}
+use Rattle.frame.specs.Frame.{START, ACK}
 use Rattle.rules.specs.Rules.{Rules, time}
 use Rattle.link.specs.Out.{Out}
 use Rattle.job.specs.declared.job.Asking.{Asking}
-use Rattle.history.specs.Perform.{What, byte, Call, took, perform}
+use Rattle.history.specs.Perform.{What, byte, Call, took, perform, lent}
 use Rattle.history.specs.History.{after}
 use Rattle.history.specs.Watch.{Verdict, ended, watched}
-use Rattle.scenes.specs.Scene.{lent, silence}
+use Rattle.scenes.specs.Scene.{silence}
 
 -- 01 received: a frame begins
 abbrev pub frameBegins : Call
-frameBegins = lent (byte 0x01)
+frameBegins = lent (byte START)
 
 -- the calls before the send or session
 abbrev pub before : List Call
@@ -33,7 +34,24 @@ longestSend R size = toFourth R size ++ silence (R .wait size)
 
 -- a session: 06 one tick before copy 4 is lost, and no response
 abbrev pub longestSession : Rules → ℕ → List Call
-longestSession R size = toFourth R size ++ (silence (R .wait size - 1) ++ (lent (byte 0x06) ∷ silence 5000))
+longestSession R size = toFourth R size ++ (silence (R .wait size - 1) ++ (lent (byte ACK) ∷ silence 5000))
+
+-- the ticks of these histories, for a held frame of so many bytes: a round, to copy 4, and to the verdict
+abbrev pub roundTime : Rules → ℕ → ℕ → ℕ
+roundTime R size n = R .wait size + (R .back time n - 1 + 1501)
+
+abbrev pub fourthTime : Rules → ℕ → ℕ
+fourthTime R size = 1501 + (roundTime R size 1 + (roundTime R size 2 + roundTime R size 3))
+
+abbrev pub sendTime : Rules → ℕ → ℕ
+sendTime R size = fourthTime R size + R .wait size
+
+abbrev pub sessionTime : Rules → ℕ → ℕ
+sessionTime R size = fourthTime R size + (R .wait size - 1 + 5000)
+
+-- a round in numbers: the same calls for every frame
+abbrev pub baseRound : ℕ → List Call
+baseRound quiet = silence 1600 ++ (silence quiet ++ (frameBegins ∷ silence 1501))
 
 -- After the history `h` the call is accepted, and over the calls `k` after it the verdict comes with exactly this accepted tick;
 -- four copies of the frame and no other byte went out.

@@ -15,13 +15,8 @@ use Rattle.report.specs.declared.Reset.{Reset}
 use Rattle.report.specs.declared.Sending.{Sending}
 use Rattle.report.specs.declared.Session.{Session}
 use Rattle.link.specs.declared.link.Link.{Link}
-use Rattle.history.specs.Perform.{What, tick, Call, Done, refused, took, perform}
+use Rattle.history.specs.Perform.{tick, Call, lent, Done, refused, took, perform}
 use Rattle.history.specs.History.{next, oneTick, accepted}
-use Rattle.frame.specs.Frame.{MAX_BODY, LINE_ROOM}
-
--- a call with 258 bytes lent for the line and 254 for the frame handed up
-abbrev pub lent : What → Call
-lent w = record { what = w; line = LINE_ROOM; up = MAX_BODY }
 
 -- n ticks and no byte
 abbrev pub silence : ℕ → List Call

@@ -14,8 +14,8 @@ use Rattle.report.specs.declared.Sending.{Sending}
 use Rattle.report.specs.declared.Sending.the-variants as sending
 use Rattle.report.specs.declared.Session.the-variants as session
 use Rattle.nodes.specs.declared.NodeList.the-variants as nodes
-use Rattle.history.specs.Perform.{Call, byte, send}
-use Rattle.scenes.specs.Scene.{lent, silence, Seen, said}
+use Rattle.history.specs.Perform.{Call, byte, send, lent}
+use Rattle.scenes.specs.Scene.{silence, Seen, said}
 use Rattle.scenes.specs.Example.{build, setTimeouts, read, list, play, built, reading, listed, shows, Example}
 
 -- ---- the words of the scenes
