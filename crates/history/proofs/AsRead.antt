@@ -103,16 +103,16 @@ record InBody (xs : List ℕ) (t : ℕ) (d zs : List ℕ) (p : Partial) : Type 0
   time : clock ≤ t
   kept : take (length bs) d ≡ bs
 
-abbrev Hears : List ℕ → ℕ → List ℕ → List ℕ → Hearing → Type 0
-Hears xs t d zs Hunting = xs ≡ zs
-Hears xs t d zs (Head clock) = (clock ≤ t) × (xs ≡ 1 ∷ zs)
-Hears xs t d zs (Body p) = InBody xs t d zs p
+abbrev StandsAt : List ℕ → ℕ → List ℕ → List ℕ → Hearing → Type 0
+StandsAt xs t d zs Hunting = xs ≡ zs
+StandsAt xs t d zs (Head clock) = (clock ≤ t) × (xs ≡ 1 ∷ zs)
+StandsAt xs t d zs (Body p) = InBody xs t d zs p
 
 record Expects (xs : List ℕ) (t : ℕ) (zs : List ℕ) (l : Link) : Type 0 where
-  hears : Hears xs t (l .body) zs (l .core .hearing)
+  hears : StandsAt xs t (l .body) zs (l .core .hearing)
   body : length (l .body) ≡ 254
 
-longer-hears : (xs d zs : List ℕ) (t u : ℕ) (h : Hearing) → t ≤ u → Hears xs t d zs h → Hears xs u d zs h
+longer-hears : (xs d zs : List ℕ) (t u : ℕ) (h : Hearing) → t ≤ u → StandsAt xs t d zs h → StandsAt xs u d zs h
 longer-hears xs d zs t u Hunting k e = e
 longer-hears xs d zs t u (Head c) k e = let v : c ≤ t = e .0 in (omega arith, e .1)
 longer-hears xs d zs t u (Body p) k e =
@@ -122,7 +122,7 @@ longer : (xs zs : List ℕ) (t u : ℕ) (l : Link) → t ≤ u → Expects xs t 
 longer xs zs t u l k e = record { hears = longer-hears xs (l .body) zs t u (l .core .hearing) k (e .hears); body = e .body }
 
 -- while all of them are to come the link hunts, and no clock runs
-anew-hears : (xs d zs : List ℕ) (t u : ℕ) (h : Hearing) → length zs ≡ length xs → Hears xs t d zs h → Hears xs u d zs h
+anew-hears : (xs d zs : List ℕ) (t u : ℕ) (h : Hearing) → length zs ≡ length xs → StandsAt xs t d zs h → StandsAt xs u d zs h
 anew-hears xs d zs t u Hunting k e = e
 anew-hears xs d zs t u (Head c) k e = let v : length xs ≡ suc (length zs) = ap length (e .1) in absurd (omega arith)
 anew-hears xs d zs t u (Body p) k e =
@@ -133,7 +133,7 @@ anew : (xs zs : List ℕ) (t u : ℕ) (l : Link) → length zs ≡ length xs →
 anew xs zs t u l k e = record { hears = anew-hears xs (l .body) zs t u (l .core .hearing) k (e .hears); body = e .body }
 
 begins : (xs : List ℕ) (l : Link) → l .core .hearing ≡ Hunting → length (l .body) ≡ 254 → Expects xs 0 xs l
-begins xs l q r = record { hears = subst (Hears xs 0 (l .body) xs) (sym q) refl; body = r }
+begins xs l q r = record { hears = subst (StandsAt xs 0 (l .body) xs) (sym q) refl; body = r }
 
 -- ---- a byte that is not the last: it is taken into the frame
 abbrev IsTaken : Event → Type 0
@@ -146,30 +146,30 @@ IsTaken TickHunting = ⊥
 IsTaken TickInside = ⊥
 IsTaken Aborted = ⊥
 
-abbrev HearsIt : List ℕ → ℕ → List ℕ → ℕ → List ℕ → Heard → Type 0
-HearsIt xs t d b zs r = IsTaken (r .event) × Hears xs t (keep (r .event) b d) zs (r .hearing)
+abbrev StandsAfter : List ℕ → ℕ → List ℕ → ℕ → List ℕ → Heard → Type 0
+StandsAfter xs t d b zs r = IsTaken (r .event) × StandsAt xs t (keep (r .event) b d) zs (r .hearing)
 
 byte-hears : (xs : List ℕ) (t : ℕ) (d : List ℕ) (b : ℕ) (zs : List ℕ) (h : Hearing) → Whole xs → 0 < length zs → length d ≡ 254
-    → Hears xs t d (b ∷ zs) h → HearsIt xs t d b zs (hearByte b h)
+    → StandsAt xs t d (b ∷ zs) h → StandsAfter xs t d b zs (hearByte b h)
 byte-hears xs t d b zs Hunting w n r e =
     let f : b ≡ 1 = ap (λ (s : List ℕ). getD s 0 0) (sym e) ∙ (starts xs w) .0 in
-    subst (λ (y : ℕ). HearsIt xs t d y zs (hearByte y Hunting)) (sym f) (tt, (omega arith, e ∙ ap (λ (y : ℕ). y ∷ zs) f))
+    subst (λ (y : ℕ). StandsAfter xs t d y zs (hearByte y Hunting)) (sym f) (tt, (omega arith, e ∙ ap (λ (y : ℕ). y ∷ zs) f))
 byte-hears xs t d b zs (Head c) w n r e = by (measured xs zs b w (e .1))
   where
-    by : Measured b zs → HearsIt xs t d b zs (hearByte b (Head c))
+    by : Measured b zs → StandsAfter xs t d b zs (hearByte b (Head c))
     by (small k m) = absurd (omega arith)
     by (large k m s) =
-        pick-by (HearsIt xs t d b zs) (ltb b 3) _ _ (λ v. let z : b < 3 = ltb-true b 3 v in absurd (omega arith))
+        pick-by (StandsAfter xs t d b zs) (ltb b 3) _ _ (λ v. let z : b < 3 = ltb-true b 3 v in absurd (omega arith))
         (λ _. (tt, record { len = b; bs = []; clock = c; came = e .1; is = begun-is c b; time = e .0; kept = refl }))
 byte-hears xs t d b zs (Body p) w n r e = by (measured xs (e .bs ++ (b ∷ zs)) (e .len) w (e .came))
   where
-    by : Measured (e .len) (e .bs ++ (b ∷ zs)) → HearsIt xs t d b zs (hearByte b (Body p))
+    by : Measured (e .len) (e .bs ++ (b ∷ zs)) → StandsAfter xs t d b zs (hearByte b (Body p))
     by (small k m) = absurd (omega (arith, length-append (e .bs) (b ∷ zs)))
     by (large k m s) =
         let at : p .at ≡ length (e .bs) = ap (λ (q : Partial). q .at) (e .is) in
         let size : p .size ≡ e .len - 1 = ap (λ (q : Partial). q .size) (e .is) in
         let all : length (e .bs) + suc (length zs) ≡ e .len = sym (length-append (e .bs) (b ∷ zs)) ∙ s in
-        pick-by (HearsIt xs t d b zs) (ltb (p .at) (p .size)) _ _
+        pick-by (StandsAfter xs t d b zs) (ltb (p .at) (p .size)) _ _
         (λ _. (
           tt,
           record {
@@ -230,15 +230,15 @@ feed-sender R xs t (y ∷ ys) zs l w n e =
     record { job = g .job ∙ f .job; held = g .held ∙ f .held }
 
 -- ---- a tick
-tick-hears : (xs : List ℕ) (t : ℕ) (d zs : List ℕ) (h : Hearing) → t + 1 ≤ 1500 → Hears xs t d zs h → Hears xs (t + 1) d zs ((hearTick h) .hearing)
+tick-hears : (xs : List ℕ) (t : ℕ) (d zs : List ℕ) (h : Hearing) → t + 1 ≤ 1500 → StandsAt xs t d zs h → StandsAt xs (t + 1) d zs ((hearTick h) .hearing)
 tick-hears xs t d zs Hunting k e = e
 tick-hears xs t d zs (Head c) k e =
     let v : c ≤ t = e .0 in
-    pick-by (λ (r : Heard). Hears xs (t + 1) d zs (r .hearing)) (ltb (c + 1) 1501) _ _ (λ _. (omega arith, e .1))
+    pick-by (λ (r : Heard). StandsAt xs (t + 1) d zs (r .hearing)) (ltb (c + 1) 1501) _ _ (λ _. (omega arith, e .1))
     (λ f. let z : 1501 ≤ c + 1 = ltb-false _ _ f in absurd (omega arith))
 tick-hears xs t d zs (Body p) k e =
     let v : p .clock ≡ e .clock = ap (λ (q : Partial). q .clock) (e .is) in
-    pick-by (λ (r : Heard). Hears xs (t + 1) d zs (r .hearing)) (ltb (p .clock + 1) 1501) _ _
+    pick-by (λ (r : Heard). StandsAt xs (t + 1) d zs (r .hearing)) (ltb (p .clock + 1) 1501) _ _
     (λ _. record { len = e .len; bs = e .bs; clock = e .clock + 1; came = e .came; is = ap later (e .is); time = omega (arith, e .time); kept = e .kept })
     (λ f. let z : 1501 ≤ p .clock + 1 = ltb-false _ _ f in absurd (omega (arith, e .time)))
 
@@ -454,7 +454,7 @@ short-ends R l b c q k =
     subst (λ (r : Reading). AsRead l (1 ∷ b ∷ []) r (byteOut R l b)) (sym (reads-short b k))
     (subst (AsRead l (1 ∷ b ∷ []) (Refused refusal.Length)) (sym o) (ending R l b end.BadLength [] refl))
 
-last-hears : (R : Rules) (xs : List ℕ) (t b : ℕ) (l : Link) (h : Hearing) → l .core .hearing ≡ h → Whole xs → Hears xs t (l .body) (b ∷ []) h
+last-hears : (R : Rules) (xs : List ℕ) (t b : ℕ) (l : Link) (h : Hearing) → l .core .hearing ≡ h → Whole xs → StandsAt xs t (l .body) (b ∷ []) h
     → AsRead l xs (read xs) (byteOut R l b)
 last-hears R xs t b l Hunting q w e = let v : length xs ≡ 1 = ap length e in let m : 1 < length xs = (starts xs w) .1 in absurd (omega arith)
 last-hears R xs t b l (Head c) q w e = by (measured xs [] b w (e .1))

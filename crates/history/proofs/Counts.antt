@@ -19,7 +19,7 @@ use Rattle.history.specs.Perform.{byte, tick, send, restart, lent, outOf
 use Rattle.history.specs.Counts.{sent07, asked07, everyCall}
 use Rattle.history.specs.History.{after, ticksIn, restartsIn}
 use Rattle.history.specs.Cut.{frames, singles, IsAnswer, ack, nak}
-use Rattle.history.specs.Watch.{Verdict, acknowledged, failed, response, noResponse, notSent, isOwn, none, says, both, verdictIn, verdictCount, ended, watched, verdictsFrom, abandonsFrom, linesFrom}
+use Rattle.history.specs.Watch.{Verdict, acknowledged, failed, response, noResponse, unsent, isOwn, none, says, both, verdictIn, verdictCount, settled, watched, verdictsFrom, abandonsFrom, linesFrom}
 
 -- one verdict of a send that is acknowledged
 pub one-verdict : verdictsFrom base Plain sent07 (lent (byte 0x06) ∷ []) ≡ 1
@@ -28,7 +28,7 @@ one-verdict = refl
 
 -- the bytes of a watch are those of the accepting call, and those of the call of the verdict
 pub verdict-bytes : watched base (Asks 0x07) asked07 (map (λ (b : ℕ). lent (byte b)) (0x06 ∷ 0x01 ∷ 0x03 ∷ 0x01 ∷ 0x07 ∷ 0xFA ∷ []))
-    ≡ ended (response 1) 0 (0x01 ∷ 0x03 ∷ 0x00 ∷ 0x07 ∷ 0xFB ∷ 0x06 ∷ [])
+    ≡ settled (response 1) 0 (0x01 ∷ 0x03 ∷ 0x00 ∷ 0x07 ∷ 0xFB ∷ 0x06 ∷ [])
 unfolding byteOut openOut frameOf fold noBody noFrame
 verdict-bytes = refl
 
@@ -53,8 +53,8 @@ both-parts c n m = (refl, refl, refl, refl, refl)
 
 pub ack-or-failure : (c n m : ℕ) → (verdictIn (Asks c) (sending.Acknowledged n) sessions.Waiting ≡ none)
     × (verdictIn (Asks c) (sending.Failed n) sessions.Waiting ≡ says (failed n))
-    × (verdictIn (Asks c) (sending.Failed n) (sessions.NotSent m) ≡ says (notSent m))
-    × (verdictIn (Asks c) (sending.Acknowledged n) (sessions.NotSent m) ≡ both (notSent m) (acknowledged n))
+    × (verdictIn (Asks c) (sending.Failed n) (sessions.NotSent m) ≡ says (unsent m))
+    × (verdictIn (Asks c) (sending.Acknowledged n) (sessions.NotSent m) ≡ both (unsent m) (acknowledged n))
 ack-or-failure c n m = (refl, refl, refl, refl)
 
 pub two-are-two : (v w : Verdict) → verdictCount (both v w) ≡ 2
@@ -81,4 +81,4 @@ own-apart c (acknowledged n) e = refl
 own-apart c (failed n) e = refl
 own-apart c (response n) e = absurd (false≢true e)
 own-apart c (noResponse n) e = absurd (false≢true e)
-own-apart c (notSent n) e = absurd (false≢true e)
+own-apart c (unsent n) e = absurd (false≢true e)

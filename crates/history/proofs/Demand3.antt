@@ -29,7 +29,7 @@ use Rattle.history.specs.Watch.{abandonsIn, verdictOf, watch, watched}
 use Rattle.history.specs.Bound.{Fits, bound}
 use Rattle.history.specs.Demand3.{Kept, Demand3, EverySend, EverySession, sendBound, sessionBound}
 use Rattle.history.proofs.Mix.{IsFrame, mix-answers}
-use Rattle.history.proofs.Reception.{room, InTime}
+use Rattle.history.proofs.Hearing.{room, InTime}
 use Rattle.history.proofs.Job.{start-ok}
 use Rattle.history.proofs.Links.{Outcome, lifted}
 use Rattle.history.proofs.Histories.{accepted-is, in-time}

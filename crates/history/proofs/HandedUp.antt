@@ -47,31 +47,31 @@ record InBody (xs d : List ℕ) (p : Partial) : Type 0 where
   fits : length bs ≤ len - 1
   kept : take (length bs) d ≡ bs
 
-abbrev Hears : List ℕ → List ℕ → Hearing → Type 0
-Hears xs d Hunting = Unit {0}
-Hears xs d (Head clock) = (before : List ℕ) × (xs ≡ before ++ (1 ∷ []))
-Hears xs d (Body p) = InBody xs d p
+abbrev TraceIn : List ℕ → List ℕ → Hearing → Type 0
+TraceIn xs d Hunting = Unit {0}
+TraceIn xs d (Head clock) = (before : List ℕ) × (xs ≡ before ++ (1 ∷ []))
+TraceIn xs d (Body p) = InBody xs d p
 
 record Traced (xs : List ℕ) (l : Link) : Type 0 where
-  hears : Hears xs (l .body) (l .core .hearing)
+  hears : TraceIn xs (l .body) (l .core .hearing)
   body : length (l .body) ≡ 254
 
 -- ---- a byte
-abbrev HearsIt : List ℕ → List ℕ → ℕ → Heard → Type 0
-HearsIt xs d b r = Hears (xs ++ (b ∷ [])) (keep (r .event) b d) (r .hearing)
+abbrev TraceAfter : List ℕ → List ℕ → ℕ → Heard → Type 0
+TraceAfter xs d b r = TraceIn (xs ++ (b ∷ [])) (keep (r .event) b d) (r .hearing)
 
-hunted-hears : (xs d : List ℕ) (b : ℕ) → HearsIt xs d b (hunted b)
+hunted-hears : (xs d : List ℕ) (b : ℕ) → TraceAfter xs d b (hunted b)
 hunted-hears xs d b =
-    pick-by (HearsIt xs d b) (eqb b 1) _ _ (λ e. (xs, ap (λ (y : ℕ). xs ++ (y ∷ [])) (eqb-true b 1 e)))
-    (λ _. pick-ok (HearsIt xs d b) (eqb b 6) _ _ tt (pick-ok (HearsIt xs d b) (eqb b 21) _ _ tt (pick-ok (HearsIt xs d b) (eqb b 24) _ _ tt tt)))
+    pick-by (TraceAfter xs d b) (eqb b 1) _ _ (λ e. (xs, ap (λ (y : ℕ). xs ++ (y ∷ [])) (eqb-true b 1 e)))
+    (λ _. pick-ok (TraceAfter xs d b) (eqb b 6) _ _ tt (pick-ok (TraceAfter xs d b) (eqb b 21) _ _ tt (pick-ok (TraceAfter xs d b) (eqb b 24) _ _ tt tt)))
 
 came-more : (xs before ys : List ℕ) (b : ℕ) → xs ≡ before ++ ys → xs ++ (b ∷ []) ≡ before ++ (ys ++ (b ∷ []))
 came-more xs before ys b e = ap (λ (z : List ℕ). z ++ (b ∷ [])) e ∙ append-assoc before ys (b ∷ [])
 
-byte-hears : (xs d : List ℕ) (b : ℕ) (h : Hearing) → IsByte b → length d ≡ 254 → Hears xs d h → HearsIt xs d b (hearByte b h)
+byte-hears : (xs d : List ℕ) (b : ℕ) (h : Hearing) → IsByte b → length d ≡ 254 → TraceIn xs d h → TraceAfter xs d b (hearByte b h)
 byte-hears xs d b Hunting x r t = hunted-hears xs d b
 byte-hears xs d b (Head clock) x r t =
-    pick-by (HearsIt xs d b) (ltb b 3) _ _ (λ _. tt)
+    pick-by (TraceAfter xs d b) (ltb b 3) _ _ (λ _. tt)
     (λ e.
     let v : 3 ≤ b = ltb-false b 3 e in
     record {
@@ -89,7 +89,7 @@ byte-hears xs d b (Head clock) x r t =
 byte-hears xs d b (Body p) x r t =
     let at : p .at ≡ length (t .bs) = ap (λ (q : Partial). q .at) (t .is) in
     let size : p .size ≡ t .len - 1 = ap (λ (q : Partial). q .size) (t .is) in
-    pick-by (HearsIt xs d b) (ltb (p .at) (p .size)) _ _
+    pick-by (TraceAfter xs d b) (ltb (p .at) (p .size)) _ _
     (λ e.
     let v : p .at < p .size = ltb-true _ _ e in
     record {
@@ -122,9 +122,9 @@ feed-traced R (b ∷ bs) xs l x t =
 
 -- ---- a tick
 abbrev TickHears : List ℕ → List ℕ → Heard → Type 0
-TickHears xs d r = Hears xs d (r .hearing)
+TickHears xs d r = TraceIn xs d (r .hearing)
 
-tick-hears : (xs d : List ℕ) (h : Hearing) → Hears xs d h → TickHears xs d (hearTick h)
+tick-hears : (xs d : List ℕ) (h : Hearing) → TraceIn xs d h → TickHears xs d (hearTick h)
 tick-hears xs d Hunting t = tt
 tick-hears xs d (Head c) t = pick-ok (TickHears xs d) (ltb (c + 1) 1501) _ _ t tt
 tick-hears xs d (Body p) t =
@@ -242,7 +242,7 @@ right-hands xs R l b p w =
     (λ e. let k : p .kind ≡ 1 = eqb-true _ _ e in frame (frame-up _ p (l .body) _ w (omega arith) refl))
     (λ _. nothing refl))
 
-hands : (xs : List ℕ) (R : Rules) (l : Link) (b : ℕ) (h : Hearing) → Hears xs (l .body) h → Hands xs R l b (hearByte b h)
+hands : (xs : List ℕ) (R : Rules) (l : Link) (b : ℕ) (h : Hearing) → TraceIn xs (l .body) h → Hands xs R l b (hearByte b h)
 hands xs R l b Hunting t =
     pick-ok (Hands xs R l b) (eqb b 1) _ _ (nothing refl)
     (pick-ok (Hands xs R l b) (eqb b 6) _ _ (nothing refl) (pick-ok (Hands xs R l b) (eqb b 21) _ _ (nothing refl) (pick-ok (Hands xs R l b) (eqb b 24) _ _ (nothing refl) (nothing refl))))

@@ -21,7 +21,7 @@ use Rattle.link.specs.declared.link.Link.{Link}
 use Rattle.history.specs.Perform.{What, byte, bytes, tick, send, session, restart, Call, checksOf, outOf, took, doneBy, perform}
 use Rattle.history.specs.History.{next, run, after}
 use Rattle.history.specs.Ranges.{All, Comes, ComeAll}
-use Rattle.history.proofs.Reception.{InTime, byte-steps, tick-steps}
+use Rattle.history.proofs.Hearing.{InTime, byte-steps, tick-steps}
 use Rattle.refusals.proofs.Picks.{pick-ok}
 
 -- an accepted send or session found nothing open, and has at most 252 parameters

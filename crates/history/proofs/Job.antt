@@ -32,7 +32,7 @@ use Rattle.report.specs.declared.Session.the-variants as session
 use Rattle.report.specs.declared.Session.{Session}
 use Rattle.history.specs.Watch.{Verdict, copiesIn, isFailure, isOwn, Says, none, says, both, together, beside, sendVerdict, sessionVerdict, verdictIn}
 use Rattle.history.specs.Bound.{Fits, tail, extra}
-use Rattle.history.proofs.Reception.{room, Within, WithinIf, Stays, Passes, Aborts, Alones, Tells, ticksAt}
+use Rattle.history.proofs.Hearing.{room, StillInside, StillInsideIf, Stays, TickPasses, Aborts, Alones, Tells, ticksAt}
 use Rattle.refusals.proofs.Picks.{pick-by}
 
 tail-law : (W : ℕ) (g : ℕ → ℕ) (n : ℕ) → 0 < n → n < 4 → tail W g n ≡ g n + 1500 + W + tail W g (suc n)
@@ -57,7 +57,7 @@ no-verdict (Asks c) s e p q = ap₂ (λ (x y : Says). together x (beside e y)) q
 
 -- an open send or session, with a held frame of so many bytes
 pub data Good (R : Rules) (size : ℕ) (h : Hearing) : Asking → Job → Type 0 where
-  due : {a : Asking} {n : ℕ} → n < 4 → Within h → Good R size h a (Due a n)
+  due : {a : Asking} {n : ℕ} → n < 4 → StillInside h → Good R size h a (Due a n)
   waits : {a : Asking} {n e : ℕ} → 0 < n → n ≤ 4 → e < R .wait size → Good R size h a (Waiting a n e)
   backs : {a : Asking} {n b : ℕ} → 0 < n → n < 4 → 0 < b → Good R size h a (BackingOff a n b)
   awaiting : {c n e : ℕ} → 0 < n → n ≤ 4 → e < 5000 → Good R size h (Asks c) (Awaiting c n e)
@@ -127,7 +127,7 @@ module _ (R : Rules) (g : ℕ → ℕ) (fit : Fits R g) (size : ℕ) where
       (goes h L n t a (record { job = Waiting a (suc n) 0; sending = sending.Copy (suc n); session = session.Nothing; reset = reset.Nothing; copy = true }) refl refl
       (record { good = waits (omega arith) k (fit .wait size); less = omega arith; count = omega arith }))
 
-  pub start-ok : (hunting : Bool) (h : Hearing) (L n t : ℕ) (a : Asking) → WithinIf hunting h → n < 4 → room h + ahead (R .wait size) g a n + t ≤ L
+  pub start-ok : (hunting : Bool) (h : Hearing) (L n t : ℕ) (a : Asking) → StillInsideIf hunting h → n < 4 → room h + ahead (R .wait size) g a n + t ≤ L
       → C h L n t a (start hunting a n)
   start-ok true h L n t a i k b = put-ok h L n t a k (omega arith)
   start-ok false h L n t a i k b = holds h L n t a (Due a n) sending.Due refl (due k i) b refl
@@ -136,7 +136,7 @@ module _ (R : Rules) (g : ℕ → ℕ) (fit : Fits R g) (size : ℕ) where
   fail-ok h L n t Plain k m b = record { soon = b; count = omega arith; few = m; four = λ _. omega arith; own = refl; idle = refl }
   fail-ok h L n t (Asks c) k m b = record { soon = b; count = omega arith; few = m; four = λ _. omega arith; own = refl; idle = refl }
 
-  off-ok : (b : ℕ) (hunting : Bool) (h : Hearing) (L n t : ℕ) (a : Asking) → WithinIf hunting h → room h ≤ 1500 → 0 < n → n < 4
+  off-ok : (b : ℕ) (hunting : Bool) (h : Hearing) (L n t : ℕ) (a : Asking) → StillInsideIf hunting h → room h ≤ 1500 → 0 < n → n < 4
       → b + 1500 + ahead (R .wait size) g a n + t ≤ L → C h L n t a (backOff b hunting a n)
   off-ok b hunting h L n t a i r p q s =
       pick-by (C h L n t a) (eqb b 0) _ _ (λ e. start-ok hunting h L n t a i q (omega arith))
@@ -144,7 +144,7 @@ module _ (R : Rules) (g : ℕ → ℕ) (fit : Fits R g) (size : ℕ) where
       let z : b ≡ 0 → ⊥ = eqb-false b 0 e in
       holds h L n t a (BackingOff a n b) (sending.BackingOff (record { 0 = b })) refl (backs p q (omega arith)) s refl)
 
-  lose-ok : (cause : Cause) (hunting : Bool) (h : Hearing) (L n t : ℕ) (a : Asking) → WithinIf hunting h → room h ≤ 1500 → 0 < n → n ≤ 4
+  lose-ok : (cause : Cause) (hunting : Bool) (h : Hearing) (L n t : ℕ) (a : Asking) → StillInsideIf hunting h → room h ≤ 1500 → 0 < n → n ≤ 4
       → R .back cause n + t ≤ g n + 1 → suc (tail (R .wait size) g n + extra a) ≤ L → t ≤ 1 → C h L n t a (lose R cause hunting a n)
   lose-ok cause hunting h L n t a i r p q b s u =
       pick-by (C h L n t a) (ltb n 4) _ _
@@ -175,7 +175,7 @@ module _ (R : Rules) (g : ℕ → ℕ) (fit : Fits R g) (size : ℕ) where
   release-ok h h′ (backs {a} {n} {b} p k w) = holds h′ _ n 0 a (BackingOff a n b) sending.Nothing refl (backs p k w) (omega arith) refl
   release-ok h h′ (awaiting {c} {n} {e} p k w) = holds h′ _ n 0 (Asks c) (Awaiting c n e) sending.Nothing refl (awaiting p k w) (omega arith) refl
 
-  wait-ok : (hunting : Bool) (h h′ : Hearing) (a : Asking) (n e : ℕ) → WithinIf hunting h′ → room h′ ≤ 1500 → 0 < n → n ≤ 4 → e < R .wait size
+  wait-ok : (hunting : Bool) (h h′ : Hearing) (a : Asking) (n e : ℕ) → StillInsideIf hunting h′ → room h′ ≤ 1500 → 0 < n → n ≤ 4 → e < R .wait size
       → C h′ (left R g size h (Waiting a n e)) n 1 a (onTick R size hunting (Waiting a n e))
   wait-ok hunting h h′ a n e i r p k w =
       pick-by (C h′ (left R g size h (Waiting a n e)) n 1 a) (ltb (e + 1) (R .wait size)) _ _
@@ -184,7 +184,7 @@ module _ (R : Rules) (g : ℕ → ℕ) (fit : Fits R g) (size : ℕ) where
       holds h′ _ n 1 a (Waiting a n (e + 1)) sending.Nothing refl (waits p k v) (omega arith) refl)
       (λ x. lose-ok time hunting h′ _ n 1 a i r p k (omega (arith, fit .late n)) (omega arith) (omega arith))
 
-  back-ok : (hunting : Bool) (h h′ : Hearing) (a : Asking) (n b : ℕ) → WithinIf hunting h′ → room h′ ≤ 1500 → 0 < n → n < 4 → 0 < b
+  back-ok : (hunting : Bool) (h h′ : Hearing) (a : Asking) (n b : ℕ) → StillInsideIf hunting h′ → room h′ ≤ 1500 → 0 < n → n < 4 → 0 < b
       → C h′ (left R g size h (BackingOff a n b)) n 1 a (onTick R size hunting (BackingOff a n b))
   back-ok hunting h h′ a n b i r p k w =
       pick-by (C h′ (left R g size h (BackingOff a n b)) n 1 a) (ltb 1 b) _ _
@@ -201,7 +201,7 @@ module _ (R : Rules) (g : ℕ → ℕ) (fit : Fits R g) (size : ℕ) where
       holds h′ _ n 1 (Asks c) (Awaiting c n (e + 1)) sending.Nothing refl (awaiting p k v) (omega arith) refl)
       (λ x. record { soon = omega arith; count = omega arith; few = k; four = λ y. absurd (false≢true y); own = refl; idle = refl })
 
-  tick-ok : (hunting : Bool) (h h′ : Hearing) {a : Asking} {job : Job} → Passes hunting h h′ → Good R size h a job
+  tick-ok : (hunting : Bool) (h h′ : Hearing) {a : Asking} {job : Job} → TickPasses hunting h h′ → Good R size h a job
       → C h′ (left R g size h job) (copiesOf job) 1 a (onTick R size hunting job)
   tick-ok hunting h h′ q (due {a} {n} k w) = holds h′ _ n 1 a (Due a n) sending.Nothing refl (due k (q .on w)) (omega (arith, q .down w)) refl
   tick-ok hunting h h′ q (waits {a} {n} {e} p k w) = wait-ok hunting h h′ a n e (q .within) (q .small) p k w
@@ -239,7 +239,7 @@ module _ (R : Rules) (g : ℕ → ℕ) (fit : Fits R g) (size : ℕ) where
   end-ok (end.Request s) h h′ d = release-ok h h′ d
   end-ok (end.Response s c) h h′ d = response-ok c h h′ d
 
-  none-within : {h h′ : Hearing} → (Within h → ⊥) → Stays h h′
+  none-within : {h h′ : Hearing} → (StillInside h → ⊥) → Stays h h′
   none-within q = record { on = λ i. absurd (q i); down = λ i. absurd (q i) }
 
   pub act-ok : (e : Event) (h h′ : Hearing) {a : Asking} {job : Job} → Tells e h h′ → Good R size h a job

@@ -1,6 +1,6 @@
 pub mod Counts
 pub mod Mix
-pub mod Reception
+pub mod Hearing
 pub mod Job
 pub mod Links
 pub mod Histories

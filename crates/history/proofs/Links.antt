@@ -34,7 +34,7 @@ use Rattle.history.specs.Cut.{ack, nak}
 use Rattle.history.specs.Watch.{Verdict, copiesIn, isFailure, isOwn, Says, none, says, both, verdictIn, verdictOf}
 use Rattle.history.specs.Bound.{Fits}
 use Rattle.history.proofs.Mix.{Mix, end as finish, one, copy, mix-append}
-use Rattle.history.proofs.Reception.{InTime, Steps, ticksAt, byte-steps, tick-steps}
+use Rattle.history.proofs.Hearing.{InTime, Steps, ticksAt, byte-steps, tick-steps}
 use Rattle.refusals.proofs.Picks.{neither, pick-by}
 use Rattle.history.proofs.Job.{Good, left, ones, Claim, no-verdict, act-ok}
 use Rattle.reception.specs.Said.{replyBytes, saidOn}

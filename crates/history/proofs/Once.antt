@@ -38,7 +38,7 @@ use Rattle.link.specs.declared.link.Link.{Link}
 use Rattle.history.specs.Perform.{What, byte, bytes, tick, send, session as sessionCall, restart, Call, checksOf, outOf, doneBy}
 use Rattle.history.specs.Cut.{nak}
 use Rattle.history.specs.Bound.{Fits}
-use Rattle.history.specs.Watch.{copiesIn, Says, none, says, both, sendVerdict, sessionVerdict, verdictIn, verdictOf, Watch, going, gone, ended, add, onward, watchTaken, watchDone, watch, outsTaken, outsDone, outs, verdictCount, verdictsOf, abandonsIn, abandonsOf, linesOf, verdictsBy, abandonsBy}
+use Rattle.history.specs.Watch.{copiesIn, Says, none, says, both, sendVerdict, sessionVerdict, verdictIn, verdictOf, Watch, going, restartedFirst, settled, add, onward, watchTaken, watchDone, watch, outsTaken, outsDone, outs, verdictCount, verdictsOf, abandonsIn, abandonsOf, linesOf, verdictsBy, abandonsBy}
 use Rattle.history.specs.Demand3.{Spent}
 use Rattle.history.proofs.Mix.{Mix, end as finish, one, mix-append, IsFrame, mix-frames}
 use Rattle.refusals.proofs.Picks.{pick-ok}
@@ -297,8 +297,8 @@ module _ (R : Rules) (f : List ℕ) (a : Asking) where
 -- ---- an open send or session, beside its watch: n copies had gone out before
 abbrev SpentBy : ℕ → Watch → Type 0
 SpentBy m (going t l) = Unit {0}
-SpentBy m gone = Unit {0}
-SpentBy m (ended v t l) = copiesIn v ≡ m
+SpentBy m restartedFirst = Unit {0}
+SpentBy m (settled v t l) = copiesIn v ≡ m
 
 pub record Sofar (f : List ℕ) (a : Asking) (n : ℕ) (w : Watch) (os : List Out) : Type 0 where
   pub more : ℕ
@@ -310,18 +310,18 @@ pub record Sofar (f : List ℕ) (a : Asking) (n : ℕ) (w : Watch) (os : List Ou
 
 add-spent : (t m n : ℕ) (l : List ℕ) (w : Watch) → m ≡ n → SpentBy m w → SpentBy n (add t l w)
 add-spent t m n l (going u k) e s = tt
-add-spent t m n l gone e s = tt
-add-spent t m n l (ended v u k) e s = s ∙ e
+add-spent t m n l restartedFirst e s = tt
+add-spent t m n l (settled v u k) e s = s ∙ e
 
 add-verdicts : (t : ℕ) (l : List ℕ) (w : Watch) → verdictsBy w ≡ verdictsBy (add t l w)
 add-verdicts t l (going u k) = refl
-add-verdicts t l gone = refl
-add-verdicts t l (ended v u k) = refl
+add-verdicts t l restartedFirst = refl
+add-verdicts t l (settled v u k) = refl
 
 add-abandons : (t : ℕ) (l : List ℕ) (w : Watch) → abandonsBy w ≡ abandonsBy (add t l w)
 add-abandons t l (going u k) = refl
-add-abandons t l gone = refl
-add-abandons t l (ended v u k) = refl
+add-abandons t l restartedFirst = refl
+add-abandons t l (settled v u k) = refl
 
 module _ (R : Rules) (g : ℕ → ℕ) (fit : Fits R g) (f : List ℕ) (a : Asking) where
   onward-sofar : (s : Says) (L n t : ℕ) (o : Out) (w : Watch) (os : List Out) → verdictOf a o ≡ s → NotAbandoned o → Outcome R g f a L n t s o
@@ -349,7 +349,7 @@ module _ (R : Rules) (g : ℕ → ℕ) (fit : Fits R g) (f : List ℕ) (a : Aski
       }
   onward-sofar (both v u) L n t o w os e b c p q = absurd c
 
-  restarted : (l : Link) (os : List Out) → Sends R f a l → Resting f a os → Sofar f a (copiesOf (l .core .job)) gone (restartOut l ∷ os)
+  restarted : (l : Link) (os : List Out) → Sends R f a l → Resting f a os → Sofar f a (copiesOf (l .core .job)) restartedFirst (restartOut l ∷ os)
   restarted l os d r =
       record {
         more = 0;
@@ -386,10 +386,10 @@ module _ (R : Rules) (g : ℕ → ℕ) (fit : Fits R g) (f : List ℕ) (a : Aski
 
 pub one-at-most : (w : Watch) → verdictsBy w ≤ 1
 one-at-most (going t l) = omega arith
-one-at-most gone = omega arith
-one-at-most (ended v t l) = omega arith
+one-at-most restartedFirst = omega arith
+one-at-most (settled v t l) = omega arith
 
 pub spent-is : {f line : List ℕ} {m : ℕ} → IsFrame f → Mix f m line → (w : Watch) → SpentBy (0 + m) w → Spent f line w
 spent-is i x (going t l) e = tt
-spent-is i x gone e = tt
-spent-is {f} {line} {m} i x (ended v t l) e = mix-frames i x ∙ ap (λ (n : ℕ). replicate n f) (let q : m ≡ copiesIn v = omega arith in q)
+spent-is i x restartedFirst e = tt
+spent-is {f} {line} {m} i x (settled v t l) e = mix-frames i x ∙ ap (λ (n : ℕ). replicate n f) (let q : m ≡ copiesIn v = omega arith in q)

@@ -13,19 +13,19 @@ use Rattle.link.specs.Out.{Out, Taken, byteOut, tickOut, openOut, restartOut, r
 use Rattle.step.specs.Checks.{checks, sendOwn, sessionOwn}
 use Rattle.step.specs.declared.checks.Checked.{Checked}
 use Rattle.step.specs.declared.checks.Checked.the-variants.{Passes, Refuses}
-use Rattle.link.specs.Calls.{answered as answeredBy, ran as ranBy, left, CallPromise, RunPromise}
+use Rattle.link.specs.Calls.{answered, ran, left, CallPromise, RunPromise}
 use Rattle.link.specs.declared.calls.Answered.{Answered}
 use Rattle.link.specs.declared.calls.Ran.{Ran}
 use Rattle.link.specs.declared.link.Link.{Link}
 use Rattle.history.specs.Perform.{byte, bytes, tick, send, session, restart, Done, doneBy}
 use Rattle.history.specs.History.{next, run, after}
-use Rattle.history.specs.Played.{answered, ran, Played, played, Promised, byteCall, bytesCall, tickCall, sendCall, sessionCall, restartCall, Plays, none, then, callsOf, answerOf, runAnswerOf, lineOf, upOf, AllTied, Performs}
+use Rattle.history.specs.Played.{byCall, byRun, Played, played, Promised, byteCall, bytesCall, tickCall, sendCall, sessionCall, restartCall, Plays, none, then, callsOf, answerOf, runAnswerOf, lineOf, upOf, AllTied, Performs}
 
-next-is : (c : Checked) (o : Out) (l : Link) → (answeredBy c o l) .link ≡ next l (doneBy c o)
+next-is : (c : Checked) (o : Out) (l : Link) → (answered c o l) .link ≡ next l (doneBy c o)
 next-is Passes o l = refl
 next-is (Refuses k) o l = refl
 
-answer-is : (c : Checked) (o : Out) (l : Link) → (answeredBy c o l) .answer ≡ answerOf (doneBy c o)
+answer-is : (c : Checked) (o : Out) (l : Link) → (answered c o l) .answer ≡ answerOf (doneBy c o)
 answer-is Passes o l = refl
 answer-is (Refuses k) o l = refl
 
@@ -37,11 +37,11 @@ up-is : (c : Checked) (o : Out) (lent : List ℕ) → left c (o .up) lent ≡ ov
 up-is Passes o lent = refl
 up-is (Refuses k) o lent = refl
 
-ran-next : (c : Checked) (t : Taken) (l : Link) → (ranBy c t l) .link ≡ next l (doneBy c (t .out))
+ran-next : (c : Checked) (t : Taken) (l : Link) → (ran c t l) .link ≡ next l (doneBy c (t .out))
 ran-next Passes t l = refl
 ran-next (Refuses k) t l = refl
 
-ran-answer : (c : Checked) (t : Taken) (l : Link) → (ranBy c t l) .answer ≡ runAnswerOf (t .taken) (doneBy c (t .out))
+ran-answer : (c : Checked) (t : Taken) (l : Link) → (ran c t l) .answer ≡ runAnswerOf (t .taken) (doneBy c (t .out))
 ran-answer Passes t l = refl
 ran-answer (Refuses k) t l = refl
 
@@ -67,40 +67,40 @@ call-matches own o l line up r line′ up′ p =
 module _ (R : Rules) (l : Link) where
   -- Each call's promise, over the very text of its contract, is what the history's call does.
   pub byte-tied : (b : ℕ) (line up : List ℕ) (r : Answered) (line′ up′ : List ℕ) → CallPromise Passes (byteOut R l b) l line up r line′ up′
-      → Performs R l (played (byte b) line up (answered (r .answer)) line′ up′) (r .link)
+      → Performs R l (played (byte b) line up (byCall (r .answer)) line′ up′) (r .link)
   byte-tied b line up r line′ up′ p =
       let m = call-matches Passes (byteOut R l b) l line up r line′ up′ p in
-      record { link = m .link; tied = record { told = ap answered (m .answer); line-left = m .line-left; up-left = m .up-left } }
+      record { link = m .link; tied = record { told = ap byCall (m .answer); line-left = m .line-left; up-left = m .up-left } }
 
   pub tick-tied : (line up : List ℕ) (r : Answered) (line′ up′ : List ℕ) → CallPromise Passes (tickOut R l) l line up r line′ up′
-      → Performs R l (played tick line up (answered (r .answer)) line′ up′) (r .link)
+      → Performs R l (played tick line up (byCall (r .answer)) line′ up′) (r .link)
   tick-tied line up r line′ up′ p =
       let m = call-matches Passes (tickOut R l) l line up r line′ up′ p in
-      record { link = m .link; tied = record { told = ap answered (m .answer); line-left = m .line-left; up-left = m .up-left } }
+      record { link = m .link; tied = record { told = ap byCall (m .answer); line-left = m .line-left; up-left = m .up-left } }
 
   pub send-tied : (kind command : ℕ) (ps line up : List ℕ) (r : Answered) (line′ up′ : List ℕ)
       → CallPromise (sendOwn (l .core .job) kind (length ps)) (openOut l Plain (frameOf kind command ps)) l line up r line′ up′
-      → Performs R l (played (send kind command ps) line up (answered (r .answer)) line′ up′) (r .link)
+      → Performs R l (played (send kind command ps) line up (byCall (r .answer)) line′ up′) (r .link)
   send-tied kind command ps line up r line′ up′ p =
       let m = call-matches (sendOwn (l .core .job) kind (length ps)) (openOut l Plain (frameOf kind command ps)) l line up r line′ up′ p in
-      record { link = m .link; tied = record { told = ap answered (m .answer); line-left = m .line-left; up-left = m .up-left } }
+      record { link = m .link; tied = record { told = ap byCall (m .answer); line-left = m .line-left; up-left = m .up-left } }
 
   pub session-tied : (command : ℕ) (ps line up : List ℕ) (r : Answered) (line′ up′ : List ℕ)
       → CallPromise (sessionOwn (l .core .job) (length ps)) (openOut l (Asks command) (frameOf REQ command ps)) l line up r line′ up′
-      → Performs R l (played (session command ps) line up (answered (r .answer)) line′ up′) (r .link)
+      → Performs R l (played (session command ps) line up (byCall (r .answer)) line′ up′) (r .link)
   session-tied command ps line up r line′ up′ p =
       let m = call-matches (sessionOwn (l .core .job) (length ps)) (openOut l (Asks command) (frameOf REQ command ps)) l line up r line′ up′ p in
-      record { link = m .link; tied = record { told = ap answered (m .answer); line-left = m .line-left; up-left = m .up-left } }
+      record { link = m .link; tied = record { told = ap byCall (m .answer); line-left = m .line-left; up-left = m .up-left } }
 
   pub restart-tied : (line up : List ℕ) (r : Answered) (line′ up′ : List ℕ) → CallPromise Passes (restartOut l) l line up r line′ up′
-      → Performs R l (played restart line up (answered (r .answer)) line′ up′) (r .link)
+      → Performs R l (played restart line up (byCall (r .answer)) line′ up′) (r .link)
   restart-tied line up r line′ up′ p =
       let m = call-matches Passes (restartOut l) l line up r line′ up′ p in
-      record { link = m .link; tied = record { told = ap answered (m .answer); line-left = m .line-left; up-left = m .up-left } }
+      record { link = m .link; tied = record { told = ap byCall (m .answer); line-left = m .line-left; up-left = m .up-left } }
 
   -- and a run of bytes
   pub run-tied : (bs line up : List ℕ) (r : Ran) (line′ up′ : List ℕ) → RunPromise (runOut R l bs) l line up r line′ up′
-      → Performs R l (played (bytes bs) line up (ran (r .answer)) line′ up′) (r .link)
+      → Performs R l (played (bytes bs) line up (byRun (r .answer)) line′ up′) (r .link)
   run-tied bs line up r line′ up′ p =
       let c = checks line up Passes in
       let t = runOut R l bs in
@@ -108,7 +108,7 @@ module _ (R : Rules) (l : Link) where
         link = ap (λ (z : Ran). z .link) (p .answer) ∙ ran-next c t l;
         tied =
             record {
-              told = ap (λ (z : Ran). ran (z .answer)) (p .answer) ∙ ap ran (ran-answer c t l);
+              told = ap (λ (z : Ran). byRun (z .answer)) (p .answer) ∙ ap byRun (ran-answer c t l);
               line-left = p .line-left ∙ line-is c (t .out) line;
               up-left = p .up-left ∙ up-is c (t .out) up;
             };

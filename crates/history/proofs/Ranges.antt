@@ -41,7 +41,7 @@ use Rattle.history.specs.History.{after}
 use Rattle.history.specs.Watch.{Says, none, says, both, verdictOf}
 use Rattle.history.specs.Bound.{Fits}
 use Rattle.history.specs.Ranges.{ComeAll, IsByte, HearingIn, IsInside, JobIn, InRange}
-use Rattle.history.proofs.Reception.{Within, InTime, byte-steps, tick-steps}
+use Rattle.history.proofs.Hearing.{StillInside, InTime, byte-steps, tick-steps}
 use Rattle.refusals.proofs.Picks.{pick-by, pick-ok}
 use Rattle.history.proofs.Job.{Good, due, waits, backs, awaiting}
 use Rattle.history.proofs.Links.{Sends, Outcome, byte-gave, tick-gave}
@@ -282,7 +282,7 @@ module _ (R : Rules) (most : ℕ) (longest : (cause : Cause) (n : ℕ) → R .ba
         fresh = tt;
       }
 
-inside : (h : Hearing) → Within h → IsInside h
+inside : (h : Hearing) → StillInside h → IsInside h
 inside Hunting w = w
 inside (Head c) w = tt
 inside (Body p) w = tt

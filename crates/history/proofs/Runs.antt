@@ -14,7 +14,7 @@ use Rattle.job.specs.declared.job.Act.{Act}
 use Rattle.link.specs.declared.link.Link.{Link}
 use Rattle.history.specs.Received.{feed, fedLine, fedUp}
 use Rattle.history.specs.Runs.{QuietByte, QuietAll, Until, SameSender}
-use Rattle.history.proofs.Reception.{no-tick}
+use Rattle.history.proofs.Hearing.{no-tick}
 use Rattle.refusals.proofs.Picks.{pick-by}
 use Rattle.history.proofs.Links.{calm-byte, calm-line}
 

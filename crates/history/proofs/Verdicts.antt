@@ -13,17 +13,17 @@ use Rattle.link.specs.Out.{Out}
 use Rattle.history.specs.Perform.{send, session, Call, took, perform}
 use Rattle.history.specs.History.{after, ticksIn, restartsIn}
 use Rattle.history.specs.Cut.{frames}
-use Rattle.history.specs.Watch.{failed, notSent, Watch, going, gone, ended, watched, verdictsFrom, linesFrom, verdictsBy}
+use Rattle.history.specs.Watch.{failed, unsent, Watch, going, restartedFirst, settled, watched, verdictsFrom, linesFrom, verdictsBy}
 use Rattle.history.specs.Bound.{Fits, toldLonger}
-use Rattle.history.specs.Demand3.{Open, Ended, Kept, Spent, IsOver, NotGone, Demand3, HasVerdict, sendBound, sessionBound}
+use Rattle.history.specs.Demand3.{Open, Ended, Kept, Spent, IsOver, NotRestarted, Demand3, HasVerdict, sendBound, sessionBound}
 use Rattle.history.proofs.Demand3.{base-send, base-session}
 
 -- ---- the sentence
-has : (R : Rules) (a : Asking) (f : List ℕ) (bound : ℕ) (o : Out) (h : List Call) (w : Watch) → watched R a o h ≡ w → Kept a f bound w → IsOver w → NotGone w
+has : (R : Rules) (a : Asking) (f : List ℕ) (bound : ℕ) (o : Out) (h : List Call) (w : Watch) → watched R a o h ≡ w → Kept a f bound w → IsOver w → NotRestarted w
     → verdictsFrom R a o h ≡ verdictsBy w → Spent f (linesFrom R o h) w → HasVerdict R a f bound o h
 has R a f bound o h (going t l) e k i n s p = absurd i
-has R a f bound o h gone e k i n s p = absurd n
-has R a f bound o h (ended v t l) e k i n s p =
+has R a f bound o h restartedFirst e k i n s p = absurd n
+has R a f bound o h (settled v t l) e k i n s p =
     record { verdict = v; ticks = t; line = l; is = e; soon = k .soon; own = k .own; once = s; copies = k .copies; spent = p; few = k .few; four = k .four }
 
 -- Enough accepted ticks and no accepted restart: it has its verdict.
@@ -49,7 +49,7 @@ session-has-verdict h k line up command ps o e t r =
 pub failed-four : (a : Asking) (f : List ℕ) (bound n t : ℕ) (l : List ℕ) → Ended a f bound (failed n) t l → n ≡ 4
 failed-four a f bound n t l e = e .four refl
 
-pub not-sent-four : (a : Asking) (f : List ℕ) (bound n t : ℕ) (l : List ℕ) → Ended a f bound (notSent n) t l → n ≡ 4
+pub not-sent-four : (a : Asking) (f : List ℕ) (bound n t : ℕ) (l : List ℕ) → Ended a f bound (unsent n) t l → n ≡ 4
 not-sent-four a f bound n t l e = e .four refl
 
 -- At most four copies in all and at most one verdict, whatever the watch comes to; at most four while it is open.

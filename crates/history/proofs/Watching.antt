@@ -22,8 +22,8 @@ use Rattle.history.specs.Perform.{What, byte, bytes, tick, send, session
 use Rattle.history.specs.History.{next, oneTick, oneRestart, accepted, ticksIn, restartsIn}
 use Rattle.history.specs.Cut.{frames}
 use Rattle.history.specs.Bound.{Fits}
-use Rattle.history.specs.Watch.{copiesIn, Says, none, says, both, verdictOf, Watch, going, gone, ended, add, onward, watchTaken, watchDone, watch, watched}
-use Rattle.history.specs.Demand3.{Kept, IsOver, NotGone}
+use Rattle.history.specs.Watch.{copiesIn, Says, none, says, both, verdictOf, Watch, going, restartedFirst, settled, add, onward, watchTaken, watchDone, watch, watched}
+use Rattle.history.specs.Demand3.{Kept, IsOver, NotRestarted}
 use Rattle.history.proofs.Mix.{Mix, end as finish, mix-append, IsFrame, mix-frames}
 use Rattle.history.proofs.Job.{Good, due, waits, backs, awaiting, left-pos, good-few}
 use Rattle.history.proofs.Links.{Sends, leftOn, Goes, Ends, Outcome, byte-gave, tick-gave, run-gave}
@@ -39,8 +39,8 @@ pub record Mid (f : List ℕ) (L n t : ℕ) (line : List ℕ) : Type 0 where
 
 abbrev pub Watched : List ℕ → Asking → ℕ → ℕ → Watch → Type 0
 Watched f a L n (going t line) = Mid f L n t line
-Watched f a L n gone = Unit {0}
-Watched f a L n (ended v t line) = Ends f a L n t v line
+Watched f a L n restartedFirst = Unit {0}
+Watched f a L n (settled v t line) = Ends f a L n t v line
 
 pub is-open : {R : Rules} {size : ℕ} {h : Hearing} {a : Asking} {job : Job} → Good R size h a job → isOpen job ≡ true
 is-open (due k w) = refl
@@ -65,8 +65,8 @@ module _ (R : Rules) (g : ℕ → ℕ) (fit : Fits R g) (f : List ℕ) (a : Aski
   add-ok : (L n t : ℕ) (o : Out) (w : Watch) → Goes R g f a L n t o → OnWatch (o .link) w → Watched f a L n (add t (o .line) w)
   add-ok L n t o (going u m) c k =
       record { soon = omega (arith, c .less, k .soon); more = c .more + k .more; mix = mix-append (c .mix) (k .mix); few = omega (arith, c .count, k .few) }
-  add-ok L n t o gone c k = tt
-  add-ok L n t o (ended v u m) c k =
+  add-ok L n t o restartedFirst c k = tt
+  add-ok L n t o (settled v u m) c k =
       record {
         soon = omega (arith, c .less, k .soon);
         more = c .more + k .more;
@@ -107,21 +107,21 @@ copies-number {f} {n} i m = ap length (mix-frames i m) ∙ length-replicate n f
 
 pub kept : (f : List ℕ) (a : Asking) (L : ℕ) (w : Watch) → IsFrame f → Watched f a L 0 w → Kept a f L w
 kept f a L (going t l) i k = record { soon = k .soon; copies = copies-are i (k .mix); few = omega (arith, k .few, copies-number i (k .mix)) }
-kept f a L gone i k = tt
-kept f a L (ended v t l) i k =
+kept f a L restartedFirst i k = tt
+kept f a L (settled v t l) i k =
     let e : k .more ≡ copiesIn v = omega (arith, k .count) in
     record { soon = k .soon; own = k .own; copies = mix-frames i (k .mix) ∙ ap (λ (n : ℕ). replicate n f) e; few = k .few; four = k .four }
 
 -- ---- a watch that goes on counted every accepted tick; one that is gone met an accepted restart
 abbrev Counts : ℕ → Watch → Type 0
 Counts n (going t l) = t ≡ n
-Counts n gone = Unit {0}
-Counts n (ended v t l) = Unit {0}
+Counts n restartedFirst = Unit {0}
+Counts n (settled v t l) = Unit {0}
 
 add-counts : (t n : ℕ) (l : List ℕ) (w : Watch) → Counts n w → Counts (t + n) (add t l w)
 add-counts t n l (going u m) e = ap (λ (x : ℕ). t + x) e
-add-counts t n l gone e = tt
-add-counts t n l (ended v u m) e = tt
+add-counts t n l restartedFirst e = tt
+add-counts t n l (settled v u m) e = tt
 
 pub onward-counts : (s : Says) (t n : ℕ) (l : List ℕ) (w : Watch) → Counts n w → Counts (t + n) (onward s t l w)
 onward-counts none t n l w e = add-counts t n l w e
@@ -147,21 +147,21 @@ watch-counts R a (c ∷ h) l = done-counts a (c .what) l (perform R l c) (λ z. 
 
 over : (a : Asking) (f : List ℕ) (bound n : ℕ) (w : Watch) → Kept a f bound w → Counts n w → bound ≤ n → IsOver w
 over a f bound n (going t l) k e b = absurd (omega (arith, k .soon))
-over a f bound n gone k e b = tt
-over a f bound n (ended v t l) k e b = tt
+over a f bound n restartedFirst k e b = tt
+over a f bound n (settled v t l) k e b = tt
 
 pub watched-over : (R : Rules) (a : Asking) (f : List ℕ) (bound : ℕ) (o : Out) (h : List Call) → Kept a f bound (watched R a o h) → bound ≤ ticksIn R (o .link) h → IsOver (watched R a o h)
 watched-over R a f bound o h k b =
     over a f bound (0 + ticksIn R (o .link) h) (watched R a o h) k (onward-counts (verdictOf a o) 0 (ticksIn R (o .link) h) (o .line) (watch R a (o .link) h) (watch-counts R a h (o .link))) (omega arith)
 
-onward-there : (s : Says) (t : ℕ) (l : List ℕ) (w : Watch) → NotGone w → NotGone (onward s t l w)
+onward-there : (s : Says) (t : ℕ) (l : List ℕ) (w : Watch) → NotRestarted w → NotRestarted (onward s t l w)
 onward-there none t l (going u m) e = tt
-onward-there none t l gone e = e
-onward-there none t l (ended v u m) e = tt
+onward-there none t l restartedFirst e = e
+onward-there none t l (settled v u m) e = tt
 onward-there (says v) t l w e = tt
 onward-there (both v u) t l w e = tt
 
-taken-there : (a : Asking) (w : What) (o : Out) (k : Watch) → oneRestart w ≡ 0 → NotGone k → NotGone (watchTaken a w o k)
+taken-there : (a : Asking) (w : What) (o : Out) (k : Watch) → oneRestart w ≡ 0 → NotRestarted k → NotRestarted (watchTaken a w o k)
 taken-there a (byte b) o k e i = onward-there (verdictOf a o) 0 (o .line) k i
 taken-there a (bytes bs) o k e i = onward-there (verdictOf a o) 0 (o .line) k i
 taken-there a tick o k e i = onward-there (verdictOf a o) 1 (o .line) k i
@@ -169,14 +169,14 @@ taken-there a (send kind command ps) o k e i = onward-there (verdictOf a o) 0 (o
 taken-there a (session command ps) o k e i = onward-there (verdictOf a o) 0 (o .line) k i
 taken-there a restart o k e i = absurd (omega arith)
 
-done-there : (a : Asking) (w : What) (l : Link) (d : Done) (k : Link → Watch) (n : Link → ℕ) → ((z : Link) → n z ≡ 0 → NotGone (k z))
-    → accepted (oneRestart w) d + n (next l d) ≡ 0 → NotGone (watchDone a w l d k)
+done-there : (a : Asking) (w : What) (l : Link) (d : Done) (k : Link → Watch) (n : Link → ℕ) → ((z : Link) → n z ≡ 0 → NotRestarted (k z))
+    → accepted (oneRestart w) d + n (next l d) ≡ 0 → NotRestarted (watchDone a w l d k)
 done-there a w l (refused r) k n i e = i l (omega arith)
 done-there a w l (took o) k n i e = taken-there a w o (k (o .link)) (omega arith) (i (o .link) (omega arith))
 
-watch-there : (R : Rules) (a : Asking) (h : List Call) (l : Link) → restartsIn R l h ≡ 0 → NotGone (watch R a l h)
+watch-there : (R : Rules) (a : Asking) (h : List Call) (l : Link) → restartsIn R l h ≡ 0 → NotRestarted (watch R a l h)
 watch-there R a [] l e = tt
 watch-there R a (c ∷ h) l e = done-there a (c .what) l (perform R l c) (λ z. watch R a z h) (λ z. restartsIn R z h) (watch-there R a h) e
 
-pub watched-there : (R : Rules) (a : Asking) (o : Out) (h : List Call) → restartsIn R (o .link) h ≡ 0 → NotGone (watched R a o h)
+pub watched-there : (R : Rules) (a : Asking) (o : Out) (h : List Call) → restartsIn R (o .link) h ≡ 0 → NotRestarted (watched R a o h)
 watched-there R a o h e = onward-there (verdictOf a o) 0 (o .line) (watch R a (o .link) h) (watch-there R a h (o .link) e)

@@ -14,7 +14,7 @@ use Rattle.history.specs.Perform.{send, session, Call, took, perform}
 use Rattle.history.specs.History.{after, ticksIn, restartsIn}
 use Rattle.history.specs.Cut.{frames, singles, IsAnswer}
 use Rattle.history.specs.Ranges.{All}
-use Rattle.history.specs.Watch.{Verdict, copiesIn, isFailure, isOwn, Watch, going, gone, ended, watched, verdictsFrom, abandonsFrom, linesFrom, verdictsBy, abandonsBy}
+use Rattle.history.specs.Watch.{Verdict, copiesIn, isFailure, isOwn, Watch, going, restartedFirst, settled, watched, verdictsFrom, abandonsFrom, linesFrom, verdictsBy, abandonsBy}
 
 -- with no verdict yet, after so many accepted ticks and these bytes
 pub record Open (f : List ℕ) (bound ticks : ℕ) (line : List ℕ) : Type 0 where
@@ -41,25 +41,25 @@ pub record Ended (a : Asking) (f : List ℕ) (bound : ℕ) (v : Verdict) (ticks 
 -- of a watch; nothing is said where an accepted restart came before the verdict
 abbrev pub Kept : Asking → List ℕ → ℕ → Watch → Type 0
 Kept a f bound (going t l) = Open f bound t l
-Kept a f bound gone = Unit {0}
-Kept a f bound (ended v t l) = Ended a f bound v t l
+Kept a f bound restartedFirst = Unit {0}
+Kept a f bound (settled v t l) = Ended a f bound v t l
 
 -- with a verdict, all frames put out until another send or session is accepted are the copies in it
 abbrev pub Spent : List ℕ → List ℕ → Watch → Type 0
 Spent f line (going t l) = Unit {0}
-Spent f line gone = Unit {0}
-Spent f line (ended v t l) = frames line ≡ replicate (copiesIn v) f
+Spent f line restartedFirst = Unit {0}
+Spent f line (settled v t l) = frames line ≡ replicate (copiesIn v) f
 
 -- it has its verdict, or was restarted before it
 abbrev pub IsOver : Watch → Type 0
 IsOver (going t l) = ⊥
-IsOver gone = Unit {0}
-IsOver (ended v t l) = Unit {0}
+IsOver restartedFirst = Unit {0}
+IsOver (settled v t l) = Unit {0}
 
-abbrev pub NotGone : Watch → Type 0
-NotGone (going t l) = Unit {0}
-NotGone gone = ⊥
-NotGone (ended v t l) = Unit {0}
+abbrev pub NotRestarted : Watch → Type 0
+NotRestarted (going t l) = Unit {0}
+NotRestarted restartedFirst = ⊥
+NotRestarted (settled v t l) = Unit {0}
 
 -- all of demand 3: the accepting call gave o, and the calls h come after it
 pub record Demand3 (R : Rules) (a : Asking) (f : List ℕ) (bound : ℕ) (o : Out) (h : List Call) : Type 0 where
@@ -79,7 +79,7 @@ pub record Demand3 (R : Rules) (a : Asking) (f : List ℕ) (bound : ℕ) (o : Ou
   -- a history of that many accepted ticks has the verdict, where no accepted restart came before it
   pub comes : bound ≤ ticksIn R (o .link) h → IsOver (watched R a o h)
   -- and only an accepted restart ends the watch without one
-  pub restarted : restartsIn R (o .link) h ≡ 0 → NotGone (watched R a o h)
+  pub restarted : restartsIn R (o .link) h ≡ 0 → NotRestarted (watched R a o h)
 
 -- of every send: take any history h, any send accepted after it, and any calls k after that; the bound goes by the frame's length
 abbrev pub EverySend : Rules → (ℕ → ℕ) → Type 0
@@ -109,7 +109,7 @@ pub record HasVerdict (R : Rules) (a : Asking) (f : List ℕ) (bound : ℕ) (o :
   pub verdict : Verdict
   pub ticks : ℕ
   pub line : List ℕ
-  pub is : watched R a o h ≡ ended verdict ticks line
+  pub is : watched R a o h ≡ settled verdict ticks line
   pub soon : ticks ≤ bound
   pub own : isOwn a verdict ≡ true
   pub once : verdictsFrom R a o h ≡ 1

@@ -24,8 +24,8 @@ use Rattle.history.specs.History.{next}
 
 -- what a call answered; a run of bytes has its own answer
 pub data Told : Type 0 where
-  answered : Answer → Told
-  ran : RunAnswer → Told
+  byCall : Answer → Told
+  byRun : RunAnswer → Told
 
 -- a call: the bytes lent to it, what it answered, and what it left of them
 pub record Played : Type 0 where
@@ -42,19 +42,19 @@ played w line up told line′ up′ = record { what = w; line = line; up = up; t
 -- the promise of each call, in the words of its contract: on the link l it is played so, and hands back this link
 pub data Promised (R : Rules) (l : Link) : Played → Link → Type 0 where
   byteCall : (b : ℕ) (line up : List ℕ) (r : Answered) (line′ up′ : List ℕ) → CallPromise Passes (byteOut R l b) l line up r line′ up′
-      → Promised R l (played (byte b) line up (answered (r .answer)) line′ up′) (r .link)
+      → Promised R l (played (byte b) line up (byCall (r .answer)) line′ up′) (r .link)
   bytesCall : (bs line up : List ℕ) (r : Ran) (line′ up′ : List ℕ) → RunPromise (runOut R l bs) l line up r line′ up′
-      → Promised R l (played (bytes bs) line up (ran (r .answer)) line′ up′) (r .link)
+      → Promised R l (played (bytes bs) line up (byRun (r .answer)) line′ up′) (r .link)
   tickCall : (line up : List ℕ) (r : Answered) (line′ up′ : List ℕ) → CallPromise Passes (tickOut R l) l line up r line′ up′
-      → Promised R l (played tick line up (answered (r .answer)) line′ up′) (r .link)
+      → Promised R l (played tick line up (byCall (r .answer)) line′ up′) (r .link)
   sendCall : (kind command : ℕ) (ps line up : List ℕ) (r : Answered) (line′ up′ : List ℕ)
       → CallPromise (sendOwn (l .core .job) kind (length ps)) (openOut l Plain (frameOf kind command ps)) l line up r line′ up′
-      → Promised R l (played (send kind command ps) line up (answered (r .answer)) line′ up′) (r .link)
+      → Promised R l (played (send kind command ps) line up (byCall (r .answer)) line′ up′) (r .link)
   sessionCall : (command : ℕ) (ps line up : List ℕ) (r : Answered) (line′ up′ : List ℕ)
       → CallPromise (sessionOwn (l .core .job) (length ps)) (openOut l (Asks command) (frameOf REQ command ps)) l line up r line′ up′
-      → Promised R l (played (session command ps) line up (answered (r .answer)) line′ up′) (r .link)
+      → Promised R l (played (session command ps) line up (byCall (r .answer)) line′ up′) (r .link)
   restartCall : (line up : List ℕ) (r : Answered) (line′ up′ : List ℕ) → CallPromise Passes (restartOut l) l line up r line′ up′
-      → Promised R l (played restart line up (answered (r .answer)) line′ up′) (r .link)
+      → Promised R l (played restart line up (byCall (r .answer)) line′ up′) (r .link)
 
 -- calls one after the other, from a link to a link
 pub data Plays (R : Rules) : Link → List Played → Link → Type 0 where
@@ -79,12 +79,12 @@ runAnswerOf n (refused k) = run.Refused k
 runAnswerOf n (took o) = run.Done (outReport o) n
 
 abbrev pub toldOf : Rules → Link → What → Done → Told
-toldOf R l (byte b) d = answered (answerOf d)
-toldOf R l (bytes bs) d = ran (runAnswerOf ((runOut R l bs) .taken) d)
-toldOf R l tick d = answered (answerOf d)
-toldOf R l (send kind command ps) d = answered (answerOf d)
-toldOf R l (session command ps) d = answered (answerOf d)
-toldOf R l restart d = answered (answerOf d)
+toldOf R l (byte b) d = byCall (answerOf d)
+toldOf R l (bytes bs) d = byRun (runAnswerOf ((runOut R l bs) .taken) d)
+toldOf R l tick d = byCall (answerOf d)
+toldOf R l (send kind command ps) d = byCall (answerOf d)
+toldOf R l (session command ps) d = byCall (answerOf d)
+toldOf R l restart d = byCall (answerOf d)
 
 abbrev pub lineOf : Done → List ℕ
 lineOf (refused k) = []

@@ -21,28 +21,28 @@ pub data Verdict : Type 0 where
   failed : (copies : ℕ) → Verdict
   response : (copies : ℕ) → Verdict
   noResponse : (copies : ℕ) → Verdict
-  notSent : (copies : ℕ) → Verdict
+  unsent : (copies : ℕ) → Verdict
 
 abbrev pub copiesIn : Verdict → ℕ
 copiesIn (acknowledged n) = n
 copiesIn (failed n) = n
 copiesIn (response n) = n
 copiesIn (noResponse n) = n
-copiesIn (notSent n) = n
+copiesIn (unsent n) = n
 
 abbrev pub isFailure : Verdict → Bool
 isFailure (acknowledged n) = false
 isFailure (failed n) = true
 isFailure (response n) = false
 isFailure (noResponse n) = false
-isFailure (notSent n) = true
+isFailure (unsent n) = true
 
 abbrev pub isAck : Verdict → Bool
 isAck (acknowledged n) = true
 isAck (failed n) = false
 isAck (response n) = false
 isAck (noResponse n) = false
-isAck (notSent n) = false
+isAck (unsent n) = false
 
 -- a send's verdict is acknowledged or failed, a session's response, no response or not sent
 abbrev pub isOwn : Asking → Verdict → Bool
@@ -50,12 +50,12 @@ isOwn Plain (acknowledged n) = true
 isOwn Plain (failed n) = true
 isOwn Plain (response n) = false
 isOwn Plain (noResponse n) = false
-isOwn Plain (notSent n) = false
+isOwn Plain (unsent n) = false
 isOwn (Asks c) (acknowledged n) = false
 isOwn (Asks c) (failed n) = false
 isOwn (Asks c) (response n) = true
 isOwn (Asks c) (noResponse n) = true
-isOwn (Asks c) (notSent n) = true
+isOwn (Asks c) (unsent n) = true
 
 -- what a report says of the open send or session: no verdict, this one, or two at once
 pub data Says : Type 0 where
@@ -80,7 +80,7 @@ sessionVerdict session.Nothing = none
 sessionVerdict session.Waiting = none
 sessionVerdict (session.Response n) = says (response n)
 sessionVerdict (session.NoResponse n) = says (noResponse n)
-sessionVerdict (session.NotSent n) = says (notSent n)
+sessionVerdict (session.NotSent n) = says (unsent n)
 sessionVerdict session.Abandoned = none
 
 -- what two parts say together
@@ -117,20 +117,20 @@ verdictOf a o = verdictIn a (o .sending) (o .session)
 -- no verdict yet; restarted before the verdict; or the verdict: with the accepted ticks and the bytes put out so far
 pub data Watch : Type 0 where
   going : (ticks : ℕ) (line : List ℕ) → Watch
-  gone : Watch
-  ended : (v : Verdict) (ticks : ℕ) (line : List ℕ) → Watch
+  restartedFirst : Watch
+  settled : (v : Verdict) (ticks : ℕ) (line : List ℕ) → Watch
 
 -- so many ticks and these bytes went before
 abbrev pub add : ℕ → List ℕ → Watch → Watch
 add t l (going u m) = going (t + u) (l ++ m)
-add t l gone = gone
-add t l (ended v u m) = ended v (t + u) (l ++ m)
+add t l restartedFirst = restartedFirst
+add t l (settled v u m) = settled v (t + u) (l ++ m)
 
 -- an accepted call that says this, in so many ticks, and puts these bytes out; the watch goes on while there is no verdict
 abbrev pub onward : Says → ℕ → List ℕ → Watch → Watch
 onward none t l w = add t l w
-onward (says v) t l w = ended v t l
-onward (both v u) t l w = ended v t l
+onward (says v) t l w = settled v t l
+onward (both v u) t l w = settled v t l
 
 -- an accepted call; w is the watch from the link that it gives
 abbrev pub watchTaken : Asking → What → Out → Watch → Watch
@@ -139,7 +139,7 @@ watchTaken a (bytes bs) o w = onward (verdictOf a o) 0 (o .line) w
 watchTaken a tick o w = onward (verdictOf a o) 1 (o .line) w
 watchTaken a (send kind command ps) o w = onward (verdictOf a o) 0 (o .line) w
 watchTaken a (sessionCall command ps) o w = onward (verdictOf a o) 0 (o .line) w
-watchTaken a restart o w = gone
+watchTaken a restart o w = restartedFirst
 
 -- a refused call is passed over; k is the watch from a link
 abbrev pub watchDone : Asking → What → Link → Done → (Link → Watch) → Watch
@@ -229,10 +229,10 @@ linesFrom R o h = linesOf (outsFrom R o h)
 -- what a watch comes to: with a verdict it was said once, and with a restart before it abandoned was
 abbrev pub verdictsBy : Watch → ℕ
 verdictsBy (going t l) = 0
-verdictsBy gone = 0
-verdictsBy (ended v t l) = 1
+verdictsBy restartedFirst = 0
+verdictsBy (settled v t l) = 1
 
 abbrev pub abandonsBy : Watch → ℕ
 abandonsBy (going t l) = 0
-abandonsBy gone = 1
-abandonsBy (ended v t l) = 0
+abandonsBy restartedFirst = 1
+abandonsBy (settled v t l) = 0

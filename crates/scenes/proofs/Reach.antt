@@ -37,7 +37,7 @@ use Rattle.report.specs.declared.Session.the-variants as session
 use Rattle.link.specs.declared.link.Link.{Link}
 use Rattle.history.specs.Perform.{byte, tick, send, session as sessionCall, Call, lent}
 use Rattle.history.specs.History.{after}
-use Rattle.history.specs.Watch.{Verdict, failed, noResponse, Says, none, says, sendVerdict, verdictIn, verdictOf, Watch, going, gone, ended, add, onward, watch}
+use Rattle.history.specs.Watch.{Verdict, failed, noResponse, Says, none, says, sendVerdict, verdictIn, verdictOf, Watch, going, restartedFirst, settled, add, onward, watch}
 use Rattle.history.specs.Demand3.{Kept, EverySend, EverySession, sendBound, sessionBound}
 use Rattle.history.proofs.Job as jobs
 use Rattle.scenes.specs.Scene.{silence}
@@ -47,13 +47,13 @@ use Rattle.sending.specs.Events.{awaitedBy}
 
 add-none : (w : Watch) → add 0 [] w ≡ w
 add-none (going t l) = ap (λ (x : ℕ). going x l) (zero-add t)
-add-none gone = refl
-add-none (ended v t l) = ap (λ (x : ℕ). ended v x l) (zero-add t)
+add-none restartedFirst = refl
+add-none (settled v t l) = ap (λ (x : ℕ). settled v x l) (zero-add t)
 
 add-add : (t u : ℕ) (l m : List ℕ) (w : Watch) → add t l (add u m w) ≡ add (t + u) (l ++ m) w
 add-add t u l m (going v n) = ap₂ going (sym (add-assoc t u v)) (sym (append-assoc l m n))
-add-add t u l m gone = refl
-add-add t u l m (ended x v n) = ap₂ (ended x) (sym (add-assoc t u v)) (sym (append-assoc l m n))
+add-add t u l m restartedFirst = refl
+add-add t u l m (settled x v n) = ap₂ (settled x) (sym (add-assoc t u v)) (sym (append-assoc l m n))
 
 no-verdict : (a : Asking) (s : Sending) → sendVerdict s ≡ none → verdictIn a s session.Nothing ≡ none
 no-verdict a s e = jobs.no-verdict a s session.Nothing e refl
@@ -75,7 +75,7 @@ module _ (R : Rules) (a : Asking) (f : List ℕ) where
   goingOn l k = watch R a l k
 
   abbrev over-with : Verdict → List Call → Watch
-  over-with v k = ended v 0 []
+  over-with v k = settled v 0 []
 
   then : {l l′ : Link} {h h′ : List Call} {w : List Call → Watch} {t u : ℕ} {line more : List ℕ}
       → Leads l h (goingOn l′) t line → Leads l′ h′ w u more → Leads l (h ++ h′) w (t + u) (line ++ more)
@@ -98,9 +98,9 @@ module _ (R : Rules) (a : Asking) (f : List ℕ) where
       }
 
   -- the verdict, from the accepting call on
-  finish : {l : Link} {h : List Call} {v : Verdict} {t : ℕ} (line : List ℕ) → Leads l h (over-with v) t (line ++ []) → add 0 [] (watch R a l h) ≡ ended v t line
+  finish : {l : Link} {h : List Call} {v : Verdict} {t : ℕ} (line : List ℕ) → Leads l h (over-with v) t (line ++ []) → add 0 [] (watch R a l h) ≡ settled v t line
   finish {l} {h} {v} {t} line p =
-      add-none (watch R a l h) ∙ ap (watch R a l) (sym (append-nil h)) ∙ p .to [] ∙ ap₂ (ended v) (add-zero t) (append-nil (line ++ []) ∙ append-nil line)
+      add-none (watch R a l h) ∙ ap (watch R a l) (sym (append-nil h)) ∙ p .to [] ∙ ap₂ (settled v) (add-zero t) (append-nil (line ++ []) ∙ append-nil line)
 
   -- a tick while hunting, by what the job does
   hunting : (j j′ : Job) (s : Sending) → onTick R (length f) true j ≡ goesOn j′ s → sendVerdict s ≡ none

@@ -9,7 +9,7 @@ use Rattle.link.specs.Out.{Out}
 use Rattle.job.specs.declared.job.Asking.{Asking}
 use Rattle.history.specs.Perform.{What, byte, Call, took, perform, lent}
 use Rattle.history.specs.History.{after}
-use Rattle.history.specs.Watch.{Verdict, ended, watched}
+use Rattle.history.specs.Watch.{Verdict, settled, watched}
 use Rattle.scenes.specs.Scene.{silence}
 
 -- 01 received: a frame begins
@@ -58,4 +58,4 @@ baseRound quiet = silence 1600 ++ (silence quiet ++ (frameBegins ∷ silence 150
 pub record Reaches (R : Rules) (h : List Call) (w : What) (a : Asking) (k : List Call) (f : List ℕ) (v : Verdict) (bound : ℕ) : Type 0 where
   pub gave : Out
   pub accepted : perform R (after R h) (lent w) ≡ took gave
-  pub verdict : watched R a gave k ≡ ended v bound (f ++ (f ++ (f ++ f)))
+  pub verdict : watched R a gave k ≡ settled v bound (f ++ (f ++ (f ++ f)))

@@ -38,28 +38,28 @@ abbrev pub good : List Call
 good = given 0x01 ∷ given 0x03 ∷ given 0x00 ∷ given 0x07 ∷ given 0xFB ∷ []
 
 -- after so many ticks the sending part says this, with these bytes, and no other part says anything
-abbrev pub says : ℕ → Sending → List ℕ → Seen
-says t s line = said t reception.Nothing s session.Nothing reset.Nothing line
+abbrev pub sendingSays : ℕ → Sending → List ℕ → Seen
+sendingSays t s line = said t reception.Nothing s session.Nothing reset.Nothing line
 
 -- copy n goes out, whole
 abbrev pub copy : ℕ → ℕ → Seen
-copy n t = says t (sending.Copy n) frame07
+copy n t = sendingSays t (sending.Copy n) frame07
 
 abbrev pub backsOff : ℕ → ℕ → Seen
-backsOff ticks t = says t (sending.BackingOff (record { 0 = ticks })) []
+backsOff ticks t = sendingSays t (sending.BackingOff (record { 0 = ticks })) []
 
 -- failed with 4 copies, and a reset with reason "delivery"
-abbrev pub failed : ℕ → Seen
-failed t = said t reception.Nothing (sending.Failed 4) session.Nothing reset.Delivery []
+abbrev pub givesUp : ℕ → Seen
+givesUp t = said t reception.Nothing (sending.Failed 4) session.Nothing reset.Delivery []
 
 -- copy 1, its back-off, copy 2, its back-off, copy 3, its back-off, copy 4 and the failure, on these ticks
 abbrev pub fourCopies : (c₁ b₁ c₂ b₂ c₃ b₃ c₄ end : ℕ) → List Seen
 fourCopies c₁ b₁ c₂ b₂ c₃ b₃ c₄ end =
-    copy 1 c₁ ∷ backsOff 100 b₁ ∷ copy 2 c₂ ∷ backsOff 1_100 b₂ ∷ copy 3 c₃ ∷ backsOff 2_100 b₃ ∷ copy 4 c₄ ∷ failed end ∷ []
+    copy 1 c₁ ∷ backsOff 100 b₁ ∷ copy 2 c₂ ∷ backsOff 1_100 b₂ ∷ copy 3 c₃ ∷ backsOff 2_100 b₃ ∷ copy 4 c₄ ∷ givesUp end ∷ []
 
 -- before any tick reception says this and puts out one byte
-abbrev pub hears : Reception → Reset → ℕ → Seen
-hears r x reply = said 0 r sending.Nothing session.Nothing x (reply ∷ [])
+abbrev pub receptionSays : Reception → Reset → ℕ → Seen
+receptionSays r x reply = said 0 r sending.Nothing session.Nothing x (reply ∷ [])
 
 -- ---- the table
 -- REQ 07, no parameters: 01 03 00 07 FB.
@@ -102,7 +102,7 @@ unfoldable pub ack-in-time : Example
 ack-in-time =
     record {
       question = play (send07 ∷ (silence 1_599 ++ (given 0x06 ∷ [])));
-      expected = shows (copy 1 0 ∷ says 1_599 (sending.Acknowledged 1) [] ∷ []);
+      expected = shows (copy 1 0 ∷ sendingSays 1_599 (sending.Acknowledged 1) [] ∷ []);
     }
 
 -- Copy 2 of a silent line goes out on tick 1,700.
@@ -122,13 +122,13 @@ silent-line =
     }
 
 -- 15 straight after every copy: copies at 0, 100, 1,200, 3,300, failed at 3,300.
-abbrev pub told : List Call → List Call
-told rest = given 0x15 ∷ rest
+abbrev pub nakThen : List Call → List Call
+nakThen rest = given 0x15 ∷ rest
 
 unfoldable pub told-each-time : Example
 told-each-time =
     record {
-      question = play (send07 ∷ told (silence 100 ++ told (silence 1_100 ++ told (silence 2_100 ++ told []))));
+      question = play (send07 ∷ nakThen (silence 100 ++ nakThen (silence 1_100 ++ nakThen (silence 2_100 ++ nakThen []))));
       expected = shows (fourCopies 0 0 100 100 1_200 1_200 3_300 3_300);
     }
 
@@ -139,7 +139,7 @@ due-in-a-frame =
       question = play (given 0x01 ∷ send07 ∷ silence 1_501);
       expected =
           shows
-          (says 0 sending.Due []
+          (sendingSays 0 sending.Due []
           ∷ said 1_501 reception.Abort (sending.Copy 1) session.Nothing reset.Nothing frame07
           ∷ []);
     }
@@ -151,9 +151,9 @@ three-bad =
       question = play (bad ++ (bad ++ bad));
       expected =
           shows
-          (hears reception.BadSum reset.Nothing 0x15
-          ∷ hears reception.BadSum reset.Nothing 0x15
-          ∷ hears reception.BadSum reset.Sums 0x15
+          (receptionSays reception.BadSum reset.Nothing 0x15
+          ∷ receptionSays reception.BadSum reset.Nothing 0x15
+          ∷ receptionSays reception.BadSum reset.Sums 0x15
           ∷ []);
     }
 
@@ -164,10 +164,10 @@ good-between =
       question = play (bad ++ (bad ++ (good ++ bad)));
       expected =
           shows
-          (hears reception.BadSum reset.Nothing 0x15
-          ∷ hears reception.BadSum reset.Nothing 0x15
-          ∷ hears reception.Frame reset.Nothing 0x06
-          ∷ hears reception.BadSum reset.Nothing 0x15
+          (receptionSays reception.BadSum reset.Nothing 0x15
+          ∷ receptionSays reception.BadSum reset.Nothing 0x15
+          ∷ receptionSays reception.Frame reset.Nothing 0x06
+          ∷ receptionSays reception.BadSum reset.Nothing 0x15
           ∷ []);
     }
 

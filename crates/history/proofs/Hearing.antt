@@ -1,4 +1,4 @@
--- Reception by itself: its events, and the clock of a frame.
+-- Hearing by itself: its events, and the clock of a frame.
 -- Assumes nothing.
 use Prim.Native.Nat.{ℕ, _+_, _-_, _≤_, _<_}
 use mathlib.Core.Path.{_≡_, refl}
@@ -21,46 +21,46 @@ room (Head c) = 1501 - c
 room (Body p) = 1501 - p .clock
 
 -- inside a frame, whose clock stays below 1,501
-abbrev pub Within : Hearing → Type 0
-Within Hunting = ⊥
-Within (Head c) = c ≤ 1500
-Within (Body p) = p .clock ≤ 1500
+abbrev pub StillInside : Hearing → Type 0
+StillInside Hunting = ⊥
+StillInside (Head c) = c ≤ 1500
+StillInside (Body p) = p .clock ≤ 1500
 
-abbrev pub WithinIf : Bool → Hearing → Type 0
-WithinIf true h = Unit {0}
-WithinIf false h = Within h
+abbrev pub StillInsideIf : Bool → Hearing → Type 0
+StillInsideIf true h = Unit {0}
+StillInsideIf false h = StillInside h
 
 -- whether it hunts or not, the clock is in range
 abbrev pub InTime : Hearing → Type 0
-InTime h = WithinIf (isHunting h) h
+InTime h = StillInsideIf (isHunting h) h
 
 -- what an event tells the job of the frame's clock before and after it
 pub record Stays (h h′ : Hearing) : Type 0 where
-  pub on : Within h → Within h′
-  pub down : Within h → room h′ ≤ room h
+  pub on : StillInside h → StillInside h′
+  pub down : StillInside h → room h′ ≤ room h
 
-pub record Passes (hunting : Bool) (h h′ : Hearing) : Type 0 where
-  pub within : WithinIf hunting h′
+pub record TickPasses (hunting : Bool) (h h′ : Hearing) : Type 0 where
+  pub within : StillInsideIf hunting h′
   pub small : room h′ ≤ 1500
-  pub on : Within h → Within h′
-  pub down : Within h → room h′ + 1 ≤ room h
+  pub on : StillInside h → StillInside h′
+  pub down : StillInside h → room h′ + 1 ≤ room h
 
 pub record Aborts (h h′ : Hearing) : Type 0 where
   pub small : room h′ ≤ 1500
-  pub had : Within h → 0 < room h
+  pub had : StillInside h → 0 < room h
 
 pub record Alones (h h′ : Hearing) : Type 0 where
-  pub out : Within h → ⊥
+  pub out : StillInside h → ⊥
   pub small : room h′ ≤ 1500
 
 abbrev pub Tells : Event → Hearing → Hearing → Type 0
 Tells Inside h h′ = Stays h h′
 Tells (Kept at) h h′ = Stays h h′
-Tells Skipped h h′ = Within h → ⊥
+Tells Skipped h h′ = StillInside h → ⊥
 Tells (Alone s) h h′ = Alones h h′
 Tells (Ended e) h h′ = Unit {0}
-Tells TickHunting h h′ = Passes true h h′
-Tells TickInside h h′ = Passes false h h′
+Tells TickHunting h h′ = TickPasses true h h′
+Tells TickInside h h′ = TickPasses false h h′
 Tells Aborted h h′ = Aborts h h′
 
 -- how many ticks an event is
@@ -108,7 +108,7 @@ no-tick b (Head c) = pick-ok NoTick (ltb b 3) _ _ refl refl
 no-tick b (Body p) = pick-ok NoTick (ltb (p .at) (p .size)) _ _ refl refl
 
 -- a clock that passes or aborts
-clocked-steps : (h h′ : Hearing) (c : ℕ) → (c + 1 < 1501 → InTime h′ × Within h′) → room h′ ≡ 1501 - (c + 1) → room h ≡ 1501 - c → c ≤ 1500
+clocked-steps : (h h′ : Hearing) (c : ℕ) → (c + 1 < 1501 → InTime h′ × StillInside h′) → room h′ ≡ 1501 - (c + 1) → room h ≡ 1501 - c → c ≤ 1500
     → Steps 1 h (clocked (c + 1) h′)
 clocked-steps h h′ c w r s k =
     pick-by (Steps 1 h) (ltb (c + 1) 1501) _ _
