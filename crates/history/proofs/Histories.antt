@@ -11,8 +11,7 @@ use Rattle.job.specs.Job.{isOpen}
 use Rattle.link.specs.Link.{freshLink}
 use Rattle.link.specs.Out.{Out, Taken, byteOut, tickOut, openOut, restartOut, news, runFrom, quiet}
 use Rattle.step.specs.Checks.{sendOwn, sessionOwn, roomChecks}
-use Rattle.step.proofs.Passed.{room-passed}
-use Rattle.step.proofs.Passed as checks
+use Rattle.step.proofs.Passed.{room-passed, session-passed, send-passed}
 use Rattle.step.specs.declared.checks.Checked.{Checked}
 use Rattle.step.specs.declared.checks.Checked.the-variants.{Passes, Refuses}
 use Rattle.job.specs.declared.job.Asking.{Asking}
@@ -29,14 +28,14 @@ pub record Free (l : Link) (n : ℕ) : Type 0 where
   pub idle : isOpen (l .core .job) ≡ false
   pub fits : n ≤ 252
 
-pub send-passed : (l : Link) (kind n : ℕ) → sendOwn (l .core .job) kind n ≡ Passes → Free l n
-send-passed l kind n e =
-    let p = checks.send-passed (l .core .job) kind n e in
+pub send-free : (l : Link) (kind n : ℕ) → sendOwn (l .core .job) kind n ≡ Passes → Free l n
+send-free l kind n e =
+    let p = send-passed (l .core .job) kind n e in
     record { idle = p .0; fits = p .2 }
 
-pub session-passed : (l : Link) (n : ℕ) → sessionOwn (l .core .job) n ≡ Passes → Free l n
-session-passed l n e =
-    let p = checks.session-passed (l .core .job) n e in
+pub session-free : (l : Link) (n : ℕ) → sessionOwn (l .core .job) n ≡ Passes → Free l n
+session-free l n e =
+    let p = session-passed (l .core .job) n e in
     record { idle = p .0; fits = p .1 }
 
 -- an accepted call passed its checks, and gave what the link's definitions say
@@ -68,8 +67,8 @@ module _ (R : Rules) (B : ℕ → Type 0) (P : Link → Type 0) (keeps : Keeps R
   what-keeps l (byte b) x e p = keeps .byte l b x p
   what-keeps l (bytes bs) x e p = run-keeps bs 0 (quiet l) x p
   what-keeps l tick x e p = keeps .tick l p
-  what-keeps l (send kind command ps) x e p = keeps .begin l Plain kind command ps ((send-passed l kind (length ps) e) .fits) p
-  what-keeps l (session command ps) x e p = keeps .begin l (Asks command) 0 command ps ((session-passed l (length ps) e) .fits) p
+  what-keeps l (send kind command ps) x e p = keeps .begin l Plain kind command ps ((send-free l kind (length ps) e) .fits) p
+  what-keeps l (session command ps) x e p = keeps .begin l (Asks command) 0 command ps ((session-free l (length ps) e) .fits) p
   what-keeps l restart x e p = keeps .fresh
 
   done-keeps : (l : Link) (c : Checked) (o : Out) → P l → (c ≡ Passes → P (o .link)) → P (next l (doneBy c o))

@@ -44,7 +44,7 @@ use Rattle.history.proofs.Mix.{Mix, end as finish, one, mix-append, IsF
 use Rattle.refusals.proofs.Picks.{pick-ok}
 use Rattle.history.proofs.Job.{Good, due, waits, backs, awaiting, good-few, no-verdict}
 use Rattle.history.proofs.Links.{Sends, Outcome, reply-mix, byte-gave, tick-gave, run-gave}
-use Rattle.history.proofs.Histories.{send-passed, session-passed}
+use Rattle.history.proofs.Histories.{send-free, session-free}
 use Rattle.history.proofs.Watching.{none-free}
 
 -- ---- no byte and no tick says abandoned
@@ -368,8 +368,8 @@ module _ (R : Rules) (g : ℕ → ℕ) (fit : Fits R g) (f : List ℕ) (a : Aski
   taken-sofar (bytes bs) l k m d e i j =
       onward-sofar (verdictOf a (outOf R l (bytes bs))) _ _ 0 _ _ _ refl (run-unsaid R l bs) (run-gave R g fit f a l bs d) (i _) (j _)
   taken-sofar tick l k m d e i j = onward-sofar (verdictOf a (outOf R l tick)) _ _ 1 _ _ _ refl (tick-unsaid R l) (tick-gave R g fit f a l d) (i _) (j _)
-  taken-sofar (send kind command ps) l k m d e i j = absurd (none-free d (send-passed l kind (length ps) e))
-  taken-sofar (sessionCall command ps) l k m d e i j = absurd (none-free d (session-passed l (length ps) e))
+  taken-sofar (send kind command ps) l k m d e i j = absurd (none-free d (send-free l kind (length ps) e))
+  taken-sofar (sessionCall command ps) l k m d e i j = absurd (none-free d (session-free l (length ps) e))
   taken-sofar restart l k m d e i j = restarted l (m ((restartOut l) .link)) d (j _ (restart-idle l))
 
   open-sofar : (h : List Call) (l : Link) → Sends R f a l → Sofar f a (copiesOf (l .core .job)) (watch R a l h) (outs R l h)

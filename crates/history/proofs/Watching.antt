@@ -27,7 +27,7 @@ use Rattle.history.specs.Demand3.{Kept, IsOver, NotRestarted}
 use Rattle.history.proofs.Mix.{Mix, end as finish, mix-append, IsFrame, mix-frames}
 use Rattle.history.proofs.Job.{Good, due, waits, backs, awaiting, left-pos, good-few}
 use Rattle.history.proofs.Links.{Sends, leftOn, Goes, Ends, Outcome, byte-gave, tick-gave, run-gave}
-use Rattle.history.proofs.Histories.{send-passed, session-passed, Free}
+use Rattle.history.proofs.Histories.{send-free, session-free, Free}
 use Rattle.step.proofs.Passed.{room-passed}
 
 -- no verdict yet: n copies had gone out and L ticks were left at the start of the watch
@@ -88,8 +88,8 @@ module _ (R : Rules) (g : ℕ → ℕ) (fit : Fits R g) (f : List ℕ) (a : Aski
   taken-ok (byte b) l k d e i = onward-ok (verdictOf a (outOf R l (byte b))) _ _ 0 _ _ (byte-gave R g fit f a l b d) (i _)
   taken-ok (bytes bs) l k d e i = onward-ok (verdictOf a (outOf R l (bytes bs))) _ _ 0 _ _ (run-gave R g fit f a l bs d) (i _)
   taken-ok tick l k d e i = onward-ok (verdictOf a (outOf R l tick)) _ _ 1 _ _ (tick-gave R g fit f a l d) (i _)
-  taken-ok (send kind command ps) l k d e i = absurd (none-free d (send-passed l kind (length ps) e))
-  taken-ok (session command ps) l k d e i = absurd (none-free d (session-passed l (length ps) e))
+  taken-ok (send kind command ps) l k d e i = absurd (none-free d (send-free l kind (length ps) e))
+  taken-ok (session command ps) l k d e i = absurd (none-free d (session-free l (length ps) e))
   taken-ok restart l k d e i = tt
 
   pub watch-ok : (h : List Call) (l : Link) → Sends R f a l → OnWatch l (watch R a l h)
@@ -112,7 +112,7 @@ kept f a L (settled v t l) i k =
     let e : k .more ≡ copiesIn v = omega (arith, k .count) in
     record { soon = k .soon; own = k .own; copies = mix-frames i (k .mix) ∙ ap (λ (n : ℕ). replicate n f) e; few = k .few; four = k .four }
 
--- ---- a watch that goes on counted every accepted tick; one that is gone met an accepted restart
+-- ---- a watch that goes on counted every accepted tick; one that was restarted first met an accepted restart
 abbrev Counts : ℕ → Watch → Type 0
 Counts n (going t l) = t ≡ n
 Counts n restartedFirst = Unit {0}

@@ -37,9 +37,9 @@ use Rattle.report.specs.declared.Session.the-variants as session
 use Rattle.link.specs.declared.link.Link.{Link}
 use Rattle.history.specs.Perform.{byte, tick, send, session as sessionCall, Call, lent}
 use Rattle.history.specs.History.{after}
-use Rattle.history.specs.Watch.{Verdict, failed, noResponse, Says, none, says, sendVerdict, verdictIn, verdictOf, Watch, going, restartedFirst, settled, add, onward, watch}
+use Rattle.history.specs.Watch.{Verdict, failed, noResponse, Says, none, says, sendVerdict, verdictOf, Watch, going, restartedFirst, settled, add, onward, watch}
 use Rattle.history.specs.Demand3.{Kept, EverySend, EverySession, sendBound, sessionBound}
-use Rattle.history.proofs.Job as jobs
+use Rattle.history.proofs.Job.{no-verdict}
 use Rattle.scenes.specs.Scene.{silence}
 use Rattle.scenes.specs.Longest.{frameBegins, before, round, toFourth, longestSend, longestSession, roundTime, fourthTime, sendTime, sessionTime, baseRound, Reaches}
 use Rattle.reception.specs.Sums.{sumsOn}
@@ -54,9 +54,6 @@ add-add : (t u : ℕ) (l m : List ℕ) (w : Watch) → add t l (add u m w) ≡ a
 add-add t u l m (going v n) = ap₂ going (sym (add-assoc t u v)) (sym (append-assoc l m n))
 add-add t u l m restartedFirst = refl
 add-add t u l m (settled x v n) = ap₂ (settled x) (sym (add-assoc t u v)) (sym (append-assoc l m n))
-
-no-verdict : (a : Asking) (s : Sending) → sendVerdict s ≡ none → verdictIn a s session.Nothing ≡ none
-no-verdict a s e = jobs.no-verdict a s session.Nothing e refl
 
 module _ (R : Rules) (a : Asking) (f : List ℕ) where
   -- a link that holds the frame f
@@ -106,7 +103,7 @@ module _ (R : Rules) (a : Asking) (f : List ℕ) where
   hunting : (j j′ : Job) (s : Sending) → onTick R (length f) true j ≡ goesOn j′ s → sendVerdict s ≡ none
       → Leads (at Hunting j) (lent tick ∷ []) (goingOn (at Hunting j′)) 1 []
   unfolding tickOut
-  hunting j j′ s e v = tick-gave (at Hunting j) (gives Hunting TickHunting j (goesOn j′ s)) (ap (gives Hunting TickHunting j) e) (no-verdict a s v)
+  hunting j j′ s e v = tick-gave (at Hunting j) (gives Hunting TickHunting j (goesOn j′ s)) (ap (gives Hunting TickHunting j) e) (no-verdict a s session.Nothing v refl)
 
   -- m quiet ticks by a family of links, then one tick more
   quiet-then : (g : ℕ → Link) (w : List Call → Watch) (line : List ℕ) (m : ℕ) → ((i : ℕ) → i < m → Leads (g i) (lent tick ∷ []) (goingOn (g (suc i))) 1 [])
@@ -158,14 +155,14 @@ module _ (R : Rules) (a : Asking) (f : List ℕ) where
   -- ---- a frame that begins, and its abort
   begins : (j : Job) → Leads (at Hunting j) (frameBegins ∷ []) (goingOn (at (Head 0) j)) 0 []
   unfolding byteOut
-  begins j = record { to = λ k. ap (λ (s : Says). onward s 0 [] (watch R a (at (Head 0) j) k)) (no-verdict a sending.Nothing refl) }
+  begins j = record { to = λ k. ap (λ (s : Says). onward s 0 [] (watch R a (at (Head 0) j) k)) (no-verdict a sending.Nothing session.Nothing refl refl) }
 
   inside : (c : ℕ) (j j′ : Job) (s : Sending) → suc c < 1501 → onTick R (length f) false j ≡ goesOn j′ s → sendVerdict s ≡ none
       → Leads (at (Head c) j) (lent tick ∷ []) (goingOn (at (Head (suc c)) j′)) 1 []
   unfolding tickOut
   inside c j j′ s h e v =
       tick-gave (at (Head c) j) (gives (Head (suc c)) TickInside j (goesOn j′ s))
-      (rw (add-one c, lt-ltb (suc c) 1501 h) (ap (gives (Head (suc c)) TickInside j) e)) (no-verdict a s v)
+      (rw (add-one c, lt-ltb (suc c) 1501 h) (ap (gives (Head (suc c)) TickInside j) e)) (no-verdict a s session.Nothing v refl)
 
   abbrev copyOut : ℕ → Act
   copyOut n = record { job = Waiting a n 0; sending = sending.Copy n; session = session.Nothing; reset = reset.Nothing; copy = true }
@@ -176,7 +173,7 @@ module _ (R : Rules) (a : Asking) (f : List ℕ) where
       subst (λ (x : List ℕ). Leads (at (Head 1500) (Due a n)) (lent tick ∷ []) (goingOn (at Hunting (Waiting a (n + 1) 0))) 1 x)
       (take-append-seam f _)
       (tick-gave (at (Head 1500) (Due a n)) (gives Hunting Aborted (Due a n) (copyOut (n + 1)))
-      (ap (gives Hunting Aborted (Due a n)) (let e : putOut a n ≡ copyOut (n + 1) = rw (lt-ltb n 4 h) in e)) (no-verdict a (sending.Copy (n + 1)) refl))
+      (ap (gives Hunting Aborted (Due a n)) (let e : putOut a n ≡ copyOut (n + 1) = rw (lt-ltb n 4 h) in e)) (no-verdict a (sending.Copy (n + 1)) session.Nothing refl refl))
 
   -- due from the start of the frame
   due-then : Leads (at (Head 0) (Due a 0)) (silence 1501) (goingOn (at Hunting (Waiting a 1 0))) 1501 f
