@@ -17,7 +17,7 @@ use Rattle.tally.specs.declared.Counts.{Counts}
 use Rattle.tally.specs.declared.Tally.{Tally}
 use Rattle.tally.specs.Tally.{column, oneMore, hit, countByte, fresh}
 use Rattle.counting.specs.Counting.{count}
-use Rattle.counting.specs.Exact.{events, hearingAfter, number, numbers}
+use Rattle.counting.specs.Exact.{events, number, numbers}
 
 -- one column over events, from n on
 unfoldable up : ℕ → ℕ → List Event → ℕ
@@ -58,11 +58,6 @@ counted-ups : (t : Tally) (bytes : List ℕ) → count t bytes .counts ≡ ups (
 unfolding count events up ups
 counted-ups t [] = refl
 counted-ups t (b ∷ bs) = counted-ups (countByte b t) bs
-
-pub counted-behind : (t : Tally) (bytes : List ℕ) → count t bytes .hearing ≡ hearingAfter (t .hearing) bytes
-unfolding count hearingAfter
-counted-behind t [] = refl
-counted-behind t (b ∷ bs) = counted-behind (countByte b t) bs
 
 pub events-length : (h : Hearing) (bytes : List ℕ) → length (events h bytes) ≡ length bytes
 unfolding events

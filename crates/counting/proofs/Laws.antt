@@ -1,10 +1,9 @@
 -- Counting at what is left of the bytes.
---     count-end     nothing is left
---     count-more    one byte more
---     count-append  two pieces are their joined bytes
+--     count-end   nothing is left
+--     count-more  one byte more
 -- Assumes nothing.
-use mathlib.Core.Path.{_≡_, refl}
-use mathlib.Core.List.{List, [], _∷_, _++_}
+use mathlib.Core.Path.{_≡_}
+use mathlib.Core.List.{List}
 use Prim.Native.Nat.{ℕ, _≤_, _<_, _+_}
 use native.Mathlib.Numerals.{add-one}
 use lib.ListN.{length, drop, getD, drop-of-length-le}
@@ -21,8 +20,3 @@ module _ (t : Tally) (i : ℕ) (bytes : List ℕ) where
   pub count-more : i < length bytes → count t (drop i bytes) ≡ count (countByte (getD bytes i 0) t) (drop (i + 1) bytes)
   unfolding count
   count-more h = rw (add-one i, drop-cons bytes i 0 h)
-
-pub count-append : (t : Tally) (a b : List ℕ) → count t (a ++ b) ≡ count (count t a) b
-unfolding count
-count-append t [] b = refl
-count-append t (x ∷ a) b = count-append (countByte x t) a b
