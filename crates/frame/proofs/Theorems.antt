@@ -68,15 +68,15 @@ frame-checksum kind command ps =
     ∙ ap checksum (sym (take-at (counted kind command ps) (sum ∷ []) (length ps + 3) (omega arith)))
 
 -- a refusal is no frame
-no : {k : Refusal} {n : ℕ} → Refused k ≡ Frame n → ⊥
-no e = let z : _≡_ {A = ℕ} 0 1 = cc in omega arith
+not-refused : {k : Refusal} {n : ℕ} → Refused k ≡ Frame n → ⊥
+not-refused e = let z : _≡_ {A = ℕ} 0 1 = cc in omega arith
 
 -- Section 3, build: accepted exactly where Type is at most 01, there are at most 252 parameters and n + 5 bytes of room; the answer is n + 5
 pub build-accepts : (kind n room m : ℕ) → builtOf kind n room ≡ Frame m → (kind ≤ 1) × (n ≤ 252) × (n + 5 ≤ room) × (m ≡ n + 5)
 build-accepts kind n room m e =
-    let known = picked-second (ltb 1 kind) no e in
-    let short = picked-second (ltb 252 n) no (known .1) in
-    let room-left = picked-second (ltb room (n + 5)) no (short .1) in
+    let known = picked-second (ltb 1 kind) not-refused e in
+    let short = picked-second (ltb 252 n) not-refused (known .1) in
+    let room-left = picked-second (ltb room (n + 5)) not-refused (short .1) in
     (ltb-false _ _ (known .0), ltb-false _ _ (short .0), ltb-false _ _ (room-left .0), sym cc)
 
 -- and so it is

@@ -25,8 +25,8 @@ pub record Whole (bytes : List ℕ) (kind command n : ℕ) : Type 0 where
   pub sum : getD bytes (n + 4) 0 ≡ checksum (take (n + 3) (drop 1 bytes))
 
 -- a refusal is no frame's parts
-no : {k : Refusal} {kind command n : ℕ} → Refused k ≡ Parts kind command n → ⊥
-no e = let z : _≡_ {A = ℕ} 0 1 = cc in omega arith
+not-refused : {k : Refusal} {kind command n : ℕ} → Refused k ≡ Parts kind command n → ⊥
+not-refused e = let z : _≡_ {A = ℕ} 0 1 = cc in omega arith
 
 -- what the tests of `read` say, gathered
 whole-of : (bytes : List ℕ) (kind command n : ℕ) → getD bytes 0 0 ≡ 1
@@ -51,14 +51,14 @@ whole-of bytes kind command n start long whole alone right known e =
 
 pub reads-whole : (bytes : List ℕ) (kind command n : ℕ) → read bytes ≡ Parts kind command n → Whole bytes kind command n
 reads-whole bytes kind command n e =
-    let some = picked-second (eqb (length bytes) 0) no e in
-    let start = picked-first (eqb (getD bytes 0 0) 1) no (some .1) in
-    let more = picked-second (eqb (length bytes) 1) no (start .1) in
-    let long = picked-second (ltb (getD bytes 1 0) 3) no (more .1) in
-    let whole = picked-second (ltb (length bytes) (getD bytes 1 0 + 2)) no (long .1) in
-    let alone = picked-second (ltb (getD bytes 1 0 + 2) (length bytes)) no (whole .1) in
-    let right = picked-first (eqb (checksum (take (getD bytes 1 0) (drop 1 bytes))) (getD bytes (getD bytes 1 0 + 1) 0)) no (alone .1) in
-    let known = picked-second (ltb 1 (getD bytes 2 0)) no (right .1) in
+    let some = picked-second (eqb (length bytes) 0) not-refused e in
+    let start = picked-first (eqb (getD bytes 0 0) 1) not-refused (some .1) in
+    let more = picked-second (eqb (length bytes) 1) not-refused (start .1) in
+    let long = picked-second (ltb (getD bytes 1 0) 3) not-refused (more .1) in
+    let whole = picked-second (ltb (length bytes) (getD bytes 1 0 + 2)) not-refused (long .1) in
+    let alone = picked-second (ltb (getD bytes 1 0 + 2) (length bytes)) not-refused (whole .1) in
+    let right = picked-first (eqb (checksum (take (getD bytes 1 0) (drop 1 bytes))) (getD bytes (getD bytes 1 0 + 1) 0)) not-refused (alone .1) in
+    let known = picked-second (ltb 1 (getD bytes 2 0)) not-refused (right .1) in
     whole-of bytes kind command n
     (eqb-true _ _ (start .0))
     (ltb-false _ _ (long .0))

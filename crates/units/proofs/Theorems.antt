@@ -30,14 +30,14 @@ ticks-back t h =
     let d : t .0 * 10 / 10 ≡ t .0 = omega arith in
     simp (le-ltb 2550 (t .0 * 10) (omega arith), eq-eqb (t .0 * 10 % 10) 0 (omega arith), d)
 
-no : {k : Refusal} {t : Ticks10} → Refused k ≡ Ticks t → ⊥
-no e = let z : _≡_ {A = ℕ} 0 1 = cc in omega arith
+not-refused : {k : Refusal} {t : Ticks10} → Refused k ≡ Ticks t → ⊥
+not-refused e = let z : _≡_ {A = ℕ} 0 1 = cc in omega arith
 
 -- milliseconds to ticks and back: the same milliseconds, a multiple of 10, 0 to 2,550
 pub millis-back : (m : Millis) (t : Ticks10) → ticksOf m ≡ Ticks t → (millisOf t ≡ m) × (t .0 ≤ 255)
 millis-back m t e =
-    let low = picked-second (ltb 2550 (m .0)) no e in
-    let whole = picked-first (eqb (m .0 % 10) 0) no (low .1) in
+    let low = picked-second (ltb 2550 (m .0)) not-refused e in
+    let whole = picked-first (eqb (m .0 % 10) 0) not-refused (low .1) in
     let h : m .0 ≤ 2550 = ltb-false _ _ (low .0) in
     let r : m .0 % 10 ≡ 0 = eqb-true _ _ (whole .0) in
     let s : _≡_ {A = Ticks10} (record { 0 = m .0 / 10 }) t = cc in
