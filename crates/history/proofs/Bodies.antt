@@ -11,6 +11,7 @@ use lib.ListN.{length, take, set, getD, length-append}
 use lib.Seq.{take-suc-set}
 use borrow.Author.Tests.{ne-eqb}
 use Rattle.refusals.specs.Pick.{pick}
+use Rattle.frame.specs.Frame.{SEED}
 use Rattle.frame.specs.Bytes.{fold}
 use Rattle.frame.proofs.Folds.{fold-append}
 use Rattle.hearing.specs.Hearing.{begun, more}
@@ -19,7 +20,7 @@ use Rattle.hearing.specs.declared.hearing.Partial.{Partial}
 -- the Length and these body bytes have come
 abbrev pub partialOf : ℕ → ℕ → List ℕ → Partial
 partialOf clock len bs =
-    record { clock = clock; size = len - 1; at = length bs; sum = fold 255 (len ∷ bs); kind = getD bs 0 0; command = getD bs 1 0 }
+    record { clock = clock; size = len - 1; at = length bs; sum = fold SEED (len ∷ bs); kind = getD bs 0 0; command = getD bs 1 0 }
 
 pub begun-is : (clock len : ℕ) → begun clock len ≡ partialOf clock len []
 unfolding fold

@@ -5,7 +5,7 @@ use mathlib.Core.Path.{_≡_, refl}
 use mathlib.Core.Bool.{false}
 use mathlib.Core.List.{List, [], _∷_}
 use lib.ListN.{length}
-use Rattle.frame.specs.Frame.{frameOf}
+use Rattle.frame.specs.Frame.{MAX_PARAMETERS, frameOf}
 use Rattle.rules.specs.Rules.{Rules}
 use Rattle.job.specs.Job.{isOpen}
 use Rattle.link.specs.Link.{freshLink}
@@ -26,7 +26,7 @@ use Rattle.refusals.proofs.Picks.{pick-ok}
 -- an accepted send or session found nothing open, and has at most 252 parameters
 pub record Free (l : Link) (n : ℕ) : Type 0 where
   pub idle : isOpen (l .core .job) ≡ false
-  pub fits : n ≤ 252
+  pub fits : n ≤ MAX_PARAMETERS
 
 pub send-free : (l : Link) (kind n : ℕ) → sendOwn (l .core .job) kind n ≡ Passes → Free l n
 send-free l kind n e =
@@ -51,7 +51,7 @@ accepted-is (Refuses k) o o′ e = record { checks = cc; gave = cc }
 pub record Keeps (R : Rules) (B : ℕ → Type 0) (P : Link → Type 0) : Type 0 where
   pub byte : (l : Link) (b : ℕ) → B b → P l → P ((byteOut R l b) .link)
   pub tick : (l : Link) → P l → P ((tickOut R l) .link)
-  pub begin : (l : Link) (a : Asking) (kind command : ℕ) (ps : List ℕ) → length ps ≤ 252 → P l → P ((openOut l a (frameOf kind command ps)) .link)
+  pub begin : (l : Link) (a : Asking) (kind command : ℕ) (ps : List ℕ) → length ps ≤ MAX_PARAMETERS → P l → P ((openOut l a (frameOf kind command ps)) .link)
   pub fresh : P freshLink
 
 module _ (R : Rules) (B : ℕ → Type 0) (P : Link → Type 0) (keeps : Keeps R B P) where

@@ -9,6 +9,7 @@ use native.Mathlib.Nat.{zero-add, suc-add, not-suc-le-zero}
 use lib.Dec.{eqb}
 use lib.ListN.{length, take, drop, getD, replicate, length-append, take-append-drop, length-drop}
 use lib.Seq.{take-at, drop-at}
+use Rattle.frame.specs.Frame.{START}
 use Rattle.refusals.specs.Pick.{pick}
 use Rattle.history.specs.Cut.{Piece, single, whole, cutInto, cut, framesOf, frames, singlesOf, singles, IsAnswer, ack, nak, joined}
 use Rattle.history.specs.Ranges.{All}
@@ -31,7 +32,7 @@ mix-append {f} {n = n} {b = b} (copy {n = m} {l = l} x) y =
 pub record IsFrame (f : List ℕ) : Type 0 where
   pub len : ℕ
   pub rest : List ℕ
-  pub is : f ≡ 1 ∷ len ∷ rest
+  pub is : f ≡ START ∷ len ∷ rest
   pub fits : length rest ≡ len
 
 -- the pieces that it is made of

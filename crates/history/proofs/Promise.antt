@@ -19,7 +19,7 @@ use Rattle.link.specs.declared.calls.Ran.{Ran}
 use Rattle.link.specs.declared.link.Link.{Link}
 use Rattle.history.specs.Perform.{byte, bytes, tick, send, session, restart, Done, doneBy}
 use Rattle.history.specs.History.{next, run, after}
-use Rattle.history.specs.Played.{byCall, byRun, Played, played, Promised, byteCall, bytesCall, tickCall, sendCall, sessionCall, restartCall, Plays, none, then, callsOf, answerOf, runAnswerOf, lineOf, upOf, AllTied, Performs}
+use Rattle.history.specs.Played.{byCall, byRun, Played, played, Promised, byteCall, bytesCall, tickCall, sendCall, sessionCall, restartCall, Plays, noCalls, then, callsOf, answerOf, runAnswerOf, lineOf, upOf, AllTied, Performs}
 
 next-is : (c : Checked) (o : Out) (l : Link) → (answered c o l) .link ≡ next l (doneBy c o)
 next-is Passes o l = refl
@@ -125,7 +125,7 @@ module _ (R : Rules) (l : Link) where
 -- ---- a whole history
 -- Calls that keep their promises, one after the other: the last link is the one that the history runs to, and every call is tied to it.
 pub plays-tied : (R : Rules) (l n : Link) (ps : List Played) → Plays R l ps n → (n ≡ run R l (callsOf ps)) × AllTied R l ps
-plays-tied R l n ps (none z) = (refl, tt)
+plays-tied R l n ps (noCalls z) = (refl, tt)
 plays-tied R l n ps (then z m w p qs k rest) =
     let d = promised R l p m k in
     let i = plays-tied R m n qs rest in

@@ -16,16 +16,16 @@ use Rattle.job.specs.declared.job.Job.the-variants.{Idle, Due, Waiting, Backing
 use Rattle.report.specs.declared.Reception.the-variants as reception
 use Rattle.link.specs.declared.link.Link.{Link}
 use Rattle.history.specs.Received.{feed}
-use Rattle.history.specs.Section11.{AtMostCopy, nothing, held}
+use Rattle.history.specs.Section11.{AtMostCopy, noCopy, oneCopy}
 use Rattle.history.specs.Whole.{dueCopy, AsRead, Receives}
 use Rattle.history.proofs.AsRead.{frame-is-whole, fed-as-read}
 
 due-at-most : (l : Link) (j : Job) → AtMostCopy l (dueCopy j (take (l .core .size) (l .frame)))
-due-at-most l Idle = nothing
-due-at-most l (Due a n) = held
-due-at-most l (Waiting a n e) = nothing
-due-at-most l (BackingOff a n b) = nothing
-due-at-most l (Awaiting c n e) = nothing
+due-at-most l Idle = noCopy
+due-at-most l (Due a n) = oneCopy
+due-at-most l (Waiting a n e) = noCopy
+due-at-most l (BackingOff a n b) = noCopy
+due-at-most l (Awaiting c n e) = noCopy
 
 -- The frame that `build` gives, byte by byte to a link that hunts: its last byte hands up its body.
 pub receives : (R : Rules) (l : Link) (kind command : ℕ) (ps : List ℕ) → l .core .hearing ≡ Hunting → length (l .body) ≡ MAX_BODY → kind ≤ RES → length ps ≤ MAX_PARAMETERS

@@ -36,7 +36,7 @@ use Rattle.report.specs.declared.Sending.the-variants as sending
 use Rattle.report.specs.declared.Session.the-variants as session
 use Rattle.link.specs.declared.link.Link.{Link}
 use Rattle.history.specs.Ranges.{IsInside}
-use Rattle.history.specs.Section11.{clockOf, NothingOrCopy, EndsAs, InFrame, on, ends, Ticked, counts, aborts, GoesOut, endAnswer, DueByte, stays, leaves, DueTick, AtMostCopy, nothing, held}
+use Rattle.history.specs.Section11.{clockOf, NothingOrCopy, EndsAs, InFrame, unended, ends, Ticked, counts, aborts, GoesOut, endAnswer, DueByte, stays, leaves, DueTick, AtMostCopy, noCopy, oneCopy}
 use Rattle.refusals.proofs.Picks.{pick-by, pick-ok}
 
 -- ---- what a byte inside a frame can be
@@ -77,9 +77,9 @@ ends-as R l b e = record { hunting = refl; sending = end-says e (l .core .job); 
 
 in-frame : (R : Rules) (l : Link) (b : ℕ) (r : Heard) → InsideByte (l .core .hearing) r → InFrame l (byteBy R l b r)
 in-frame R l b r (atLength i c) =
-    on (record { inside = i; clock = c; job = refl; sending = refl; session = refl; reception = refl; reset = refl; line = refl; up = refl })
+    unended (record { inside = i; clock = c; job = refl; sending = refl; session = refl; reception = refl; reset = refl; line = refl; up = refl })
 in-frame R l b r (atBody at i c) =
-    on (record { inside = i; clock = c; job = refl; sending = refl; session = refl; reception = refl; reset = refl; line = refl; up = refl })
+    unended (record { inside = i; clock = c; job = refl; sending = refl; session = refl; reception = refl; reset = refl; line = refl; up = refl })
 in-frame R l b r (atEnd e) = ends e (ends-as R l b e)
 
 -- "Taking 06 inside a body as the awaited ACK." Inside a frame no byte is taken by the sender: it leaves the job as it was and says nothing, or ends the frame, and then at most a due copy goes out, and a send that waits for its ACK waits on.
@@ -155,7 +155,7 @@ unfolding tickOut
 due-tick R l a n q i = due-in-tick R l a n (hearTick (l .core .hearing)) q (inside-tick (l .core .hearing) i)
 
 pub at-most : (l : Link) (c : Bool) → AtMostCopy l (pick c (take (l .core .size) (l .frame)) [])
-at-most l c = pick-ok (AtMostCopy l) c _ _ held nothing
+at-most l c = pick-ok (AtMostCopy l) c _ _ oneCopy noCopy
 
 tick-puts : (R : Rules) (l : Link) (r : Heard) → ((j : Job) → (saidOn (r .event) (awaitedBy j)) .reply ≡ reply.Silent) → AtMostCopy l ((heardOut R (l .core) (l .body) (l .frame) r) .line)
 tick-puts R l r s =

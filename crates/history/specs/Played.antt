@@ -58,7 +58,7 @@ pub data Promised (R : Rules) (l : Link) : Played → Link → Type 0 where
 
 -- calls one after the other, from a link to a link
 pub data Plays (R : Rules) : Link → List Played → Link → Type 0 where
-  none : (l : Link) → Plays R l [] l
+  noCalls : (l : Link) → Plays R l [] l
   then : (l m n : Link) (p : Played) (ps : List Played) → Promised R l p m → Plays R m ps n → Plays R l (p ∷ ps) n
 
 -- ---- the same calls in a history

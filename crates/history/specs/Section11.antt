@@ -63,7 +63,7 @@ pub record EndsAs (l : Link) (o : Out) (e : End) : Type 0 where
 
 -- "Taking 06 inside a body as the awaited ACK." Inside a frame no byte is taken by the sender.
 pub data InFrame (l : Link) (o : Out) : Type 0 where
-  on : GoesOn l o → InFrame l o
+  unended : GoesOn l o → InFrame l o
   ends : (e : End) → EndsAs l o e → InFrame l o
 
 -- ---- a tick inside a frame
@@ -99,5 +99,5 @@ pub data DueTick (a : Asking) (n : ℕ) (l : Link) (o : Out) : Type 0 where
 -- ---- the answers
 -- bytes that are a copy of the held frame, or none
 pub data AtMostCopy (l : Link) : List ℕ → Type 0 where
-  nothing : AtMostCopy l []
-  held : AtMostCopy l (take (l .core .size) (l .frame))
+  noCopy : AtMostCopy l []
+  oneCopy : AtMostCopy l (take (l .core .size) (l .frame))

@@ -29,12 +29,12 @@ pub data Seen : Type 0 where
   refusal : (ticks : ℕ) → Refusal → Seen
 
 -- A call is shown if its report is more than "nothing" or "skipped", and if it put out bytes.
-abbrev pub shows : Out → Bool
-shows o = pick (news o) true (pick (eqb (length (o .line)) 0) false true)
+abbrev pub isShown : Out → Bool
+isShown o = pick (news o) true (pick (eqb (length (o .line)) 0) false true)
 
 abbrev pub seenDone : ℕ → Done → List Seen → List Seen
 seenDone t (refused k) rest = refusal t k ∷ rest
-seenDone t (took o) rest = pick (shows o) (said t (o .reception) (o .sending) (o .session) (o .reset) (o .line) ∷ rest) rest
+seenDone t (took o) rest = pick (isShown o) (said t (o .reception) (o .sending) (o .session) (o .reset) (o .line) ∷ rest) rest
 
 -- over these calls, from a link, with so many ticks before
 abbrev pub seenFrom : Rules → Link → ℕ → List Call → List Seen
