@@ -36,7 +36,7 @@ use Rattle.report.specs.declared.Sending.the-variants as sending
 use Rattle.report.specs.declared.Session.the-variants as session
 use Rattle.link.specs.declared.link.Link.{Link}
 use Rattle.history.specs.Ranges.{IsInside}
-use Rattle.history.specs.Section11.{clockOf, NothingOrCopy, EndsAs, InFrame, unended, ends, Ticked, counts, aborts, GoesOut, endAnswer, DueByte, stays, leaves, DueTick, AtMostCopy, noCopy, oneCopy}
+use Rattle.history.specs.Section11.{clockOf, NothingOrCopy, EndsAs, InFrame, unended, ends, Ticked, counts, aborts, GoesOut, endAnswer, DueByte, stays, leaves, DueTick, stillDue, outByAbort, AtMostCopy, noCopy, oneCopy}
 use Rattle.refusals.proofs.Picks.{pick-by, pick-ok}
 
 -- ---- what a byte inside a frame can be
@@ -147,8 +147,8 @@ due-byte R l b a n q i = due-in-frame R l b a n (hearByte b (l .core .hearing)) 
 
 due-in-tick : (R : Rules) (l : Link) (a : Asking) (n : ℕ) (r : Heard) → l .core .job ≡ Due a n → InsideTick (l .core .hearing) r
     → DueTick a n l (heardOut R (l .core) (l .body) (l .frame) r)
-due-in-tick R l a n r q (ticksOn i c k) = stays i (ap (λ (j : Job). (onTick R (l .core .size) false j) .job) q)
-due-in-tick R l a n r q (ticksOver k) = leaves refl (goes-out R l (l .body) [] a n (heard Hunting Aborted) refl (ap (onAbort R (l .core .size)) q))
+due-in-tick R l a n r q (ticksOn i c k) = stillDue i (ap (λ (j : Job). (onTick R (l .core .size) false j) .job) q)
+due-in-tick R l a n r q (ticksOver k) = outByAbort refl (goes-out R l (l .body) [] a n (heard Hunting Aborted) refl (ap (onAbort R (l .core .size)) q))
 
 pub due-tick : (R : Rules) (l : Link) (a : Asking) (n : ℕ) → l .core .job ≡ Due a n → IsInside (l .core .hearing) → DueTick a n l (tickOut R l)
 unfolding tickOut

@@ -93,8 +93,8 @@ pub data DueByte (a : Asking) (n : ℕ) (l : Link) (o : Out) : Type 0 where
 
 -- and a tick: the copy stays due inside the frame, or goes out by the abort
 pub data DueTick (a : Asking) (n : ℕ) (l : Link) (o : Out) : Type 0 where
-  stays : IsInside (o .link .core .hearing) → o .link .core .job ≡ Due a n → DueTick a n l o
-  leaves : o .reception ≡ reception.Abort → GoesOut a n [] l o → DueTick a n l o
+  stillDue : IsInside (o .link .core .hearing) → o .link .core .job ≡ Due a n → DueTick a n l o
+  outByAbort : o .reception ≡ reception.Abort → GoesOut a n [] l o → DueTick a n l o
 
 -- ---- the answers
 -- bytes that are a copy of the held frame, or none
