@@ -3,7 +3,7 @@
 use crate::reception::{End, Heard, Reception, Single};
 use std::io::{self, Read, Write};
 
-/// At most as many bytes are counted.
+/// The most bytes that are counted.
 pub const MOST_BYTES: u64 = 16_777_216;
 
 /// What was counted, in the order printed.
