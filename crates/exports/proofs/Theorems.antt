@@ -1,8 +1,8 @@
 -- The promises of the exported functions fix their answers and every lent byte (document 01, section 12).
---     ended-determined   sarnaqel_runs, sarnaqel_bytes, sarnaqel_ticks
---     built-determined   sarnaqel_build
---     read-determined    sarnaqel_read
---     count-determined   sarnaqel_count: the nine counts that it leaves
+--     fed-to-determined   sarnaqel_runs, sarnaqel_bytes, sarnaqel_ticks
+--     built-determined    sarnaqel_build
+--     read-determined     sarnaqel_read
+--     count-determined    sarnaqel_count: the nine counts that it leaves
 -- Assumes nothing.
 use mathlib.Core.Path.{_≡_}
 use mathlib.Core.List.{List}
@@ -14,8 +14,8 @@ use Rattle.counting.specs.Counting.{count}
 use Rattle.exports.specs.Numbers.{readingNumber, BuiltAs, countsOf}
 use Rattle.exports.specs.Feeding.{Fed, FedTo}
 
-pub ended-determined : {f : Fed} {r q : ℕ} {a b c d : List ℕ} → FedTo f r a b → FedTo f q c d → (r ≡ q) × (a ≡ c) × (b ≡ d)
-ended-determined x y = (fixed (x .answer) (y .answer), fixed (x .line-left) (y .line-left), fixed (x .up-left) (y .up-left))
+pub fed-to-determined : {f : Fed} {r q : ℕ} {a b c d : List ℕ} → FedTo f r a b → FedTo f q c d → (r ≡ q) × (a ≡ c) × (b ≡ d)
+fed-to-determined x y = (fixed (x .answer) (y .answer), fixed (x .line-left) (y .line-left), fixed (x .up-left) (y .up-left))
 
 pub built-determined : {kind command : ℕ} {ps lent : List ℕ} {r q : ℕ} {a b : List ℕ}
     → BuiltAs kind command ps lent r a → BuiltAs kind command ps lent q b → (r ≡ q) × (a ≡ b)

@@ -3,6 +3,7 @@
 --     hunted-determined, measured-determined, followed-determined   the same, by where the hearing stands
 --     hunting-determined                                            whether it hunts
 --     keep-determined                                               the body of 254 bytes after a byte
+--     keep-length                                                   a byte kept leaves the body as long as it was
 -- Assumes nothing.
 use mathlib.Core.Path.{_≡_, refl}
 use mathlib.Core.Bool.{Bool}
