@@ -2,7 +2,8 @@
 --     bytes-on, bytes-end   every byte in a call of its own
 --     ticks-..              ticks
 --     ended                 what is reached is what is answered
---     asked-.., heard-on    before the ticks
+--     asked-.., heard-on    how a link is made ready
+--     ready-on              what is fed to a link that was made ready
 -- Assumes nothing.
 use mathlib.Core.Path.{_≡_, refl, sym, ap, _∙_}
 use mathlib.Core.Bool.{Bool, true, false}
@@ -89,7 +90,7 @@ ended f l line up s e =
       up-left = sym (ap (λ (g : Fed). g .up) e);
     }
 
--- ---- before the ticks
+-- ---- how a link is made ready
 module _ (ps line up : List ℕ) (l : Link) (fresh : l ≡ freshLink) where
   pub asked-on : (asks : Bool) (line′ up′ : List ℕ) (r : Answered) → asks ≡ true
       → CallPromise (sessionOwn (l .core .job) (length ps)) (openOut l (Asks 7) (frameOf 0 7 ps)) l line up r line′ up′
@@ -103,14 +104,14 @@ pub heard-on : (bs : List ℕ) (f : Fed) (l l′ : Link) (line up line′ up′ 
     → bytesFed (checks line up Passes) (at l line up 0) bs ≡ at l′ line′ up′ s → heardFed bs f ≡ at l′ line′ up′ 0
 heard-on bs f l l′ line up line′ up′ s e x = ap (heardFed bs) e ∙ ap unsummed x
 
--- ticks on a link that was made ready
-pub ready-ticks : (f : Fed) (l : Link) (line up line₀ up₀ line′ up′ : List ℕ) (n r : ℕ)
+-- what is fed to a link that was made ready: its calls see the buffers as they were lent
+pub ready-on : (feeds : Checked → Fed → Fed) (f : Fed) (l : Link) (line up line₀ up₀ line′ up′ : List ℕ) (r : ℕ)
     → length line ≡ length line₀ → length up ≡ length up₀ → f ≡ at l line up 0
-    → FedTo (ticksFed (checks line up Passes) (at l line up 0) n) r line′ up′ → FedTo (ticksFed (checks line₀ up₀ Passes) f n) r line′ up′
-ready-ticks f l line up line₀ up₀ line′ up′ n r p q x y =
-    let e : ticksFed (checks line up Passes) (at l line up 0) n ≡ ticksFed (checks line₀ up₀ Passes) f n =
-    ap (λ (z : Checked). ticksFed z (at l line up 0) n) (same-checks Passes line up line₀ up₀ p q)
-    ∙ ap (λ (z : Fed). ticksFed (checks line₀ up₀ Passes) z n) (sym x) in
+    → FedTo (feeds (checks line up Passes) (at l line up 0)) r line′ up′ → FedTo (feeds (checks line₀ up₀ Passes) f) r line′ up′
+ready-on feeds f l line up line₀ up₀ line′ up′ r p q x y =
+    let e : feeds (checks line up Passes) (at l line up 0) ≡ feeds (checks line₀ up₀ Passes) f =
+    ap (λ (z : Checked). feeds z (at l line up 0)) (same-checks Passes line up line₀ up₀ p q)
+    ∙ ap (feeds (checks line₀ up₀ Passes)) (sym x) in
     record {
       answer = y .answer ∙ ap (λ (g : Fed). g .sum) e;
       line-left = y .line-left ∙ ap (λ (g : Fed). g .line) e;

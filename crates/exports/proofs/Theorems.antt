@@ -1,17 +1,21 @@
 -- The promises of the exported functions fix their answers and every lent byte (document 01, section 12).
---     fed-to-determined   sarnaqel_runs, sarnaqel_bytes, sarnaqel_ticks
+--     fed-to-determined   sarnaqel_by_value_runs, sarnaqel_by_value_bytes, sarnaqel_by_value_ticks (of exports_by_value)
 --     built-determined    sarnaqel_build
 --     read-determined     sarnaqel_read
 --     count-determined    sarnaqel_count: the nine counts that it leaves
+--     mix-determined, answer-number-determined, tale-determined   mix, answer_number, tale_of, for exports_by_value
 -- Assumes nothing.
-use mathlib.Core.Path.{_≡_}
+use mathlib.Core.Path.{_≡_, ap, _∙_}
 use mathlib.Core.List.{List}
 use Prim.Native.Nat.{ℕ}
 use Rattle.refusals.proofs.Theorems.{fixed}
 use Rattle.reading.specs.Reader.{read}
 use Rattle.tally.specs.Tally.{fresh}
 use Rattle.counting.specs.Counting.{count}
-use Rattle.exports.specs.Numbers.{readingNumber, BuiltAs, countsOf}
+use Rattle.link.specs.declared.calls.Answer.{Answer}
+use Rattle.link.specs.declared.calls.RunAnswer.{RunAnswer}
+use Rattle.exports.specs.declared.numbers.Tale.{Tale}
+use Rattle.exports.specs.Numbers.{mix, answerNumber, runNumber, runTaken, readingNumber, BuiltAs, countsOf}
 use Rattle.exports.specs.Feeding.{Fed, FedTo}
 
 pub fed-to-determined : {f : Fed} {r q : ℕ} {a b c d : List ℕ} → FedTo f r a b → FedTo f q c d → (r ≡ q) × (a ≡ c) × (b ≡ d)
@@ -26,3 +30,16 @@ read-determined bytes = fixed
 
 pub count-determined : (input : List ℕ) {a b : List ℕ} → a ≡ countsOf (count fresh input) → b ≡ countsOf (count fresh input) → a ≡ b
 count-determined input = fixed
+
+pub mix-determined : (sum number : ℕ) {r q : ℕ} → r ≡ mix sum number → q ≡ mix sum number → r ≡ q
+mix-determined sum number = fixed
+
+pub answer-number-determined : (a : Answer) {r q : ℕ} → r ≡ answerNumber a → q ≡ answerNumber a → r ≡ q
+answer-number-determined a = fixed
+
+pub tale-determined : (a : RunAnswer) {r q : Tale} → (r .number ≡ runNumber a) × (r .taken ≡ runTaken a)
+    → (q .number ≡ runNumber a) × (q .taken ≡ runTaken a) → r ≡ q
+tale-determined a {r} {q} x y =
+    let told : ℕ → ℕ → Tale = λ n t. record { number = n; taken = t } in
+    ap (λ (n : ℕ). told n (r .taken)) (fixed (x .0) (y .0))
+    ∙ ap (told (q .number)) (fixed (x .1) (y .1))

@@ -2,4 +2,8 @@
 mod counts;
 mod frames;
 mod numbers;
-mod runs;
+
+pub use numbers::Tale;
+pub use numbers::answer_number;
+pub use numbers::mix;
+pub use numbers::tale_of;

@@ -1,4 +1,4 @@
--- `exports::runs::sarnaqel_runs` meets its contract: the invariant is that the bytes left, from here, give what all of them give,
+-- `exports_by_value::runs::runs_fed` meets its contract: the invariant is that the bytes left, from here, give what all of them give,
 -- with as many runs as there are bytes left, since each takes at least one.
 -- Assumes nothing.
 use mathlib.Core.Path.{_≡_, refl, sym, ap, _∙_}
@@ -10,11 +10,11 @@ use denote.Ref.{now}
 use Rattle.step.specs.Checks.{checks}
 use Rattle.step.specs.declared.checks.Checked.the-variants.{Passes}
 use Rattle.link.specs.declared.link.Link.{Link}
 use Rattle.exports.specs.Feeding.{runsFed}
 use Rattle.exports.proofs.Feeds.{ended}
 use Rattle.exports.proofs.Takes.{fed, part-given, taken-left, runs-stop, runs-on, runs-end}
-use Rattle.exports.proofs.runs.sarnaqel_runs.Statement.{statement}
-use Rattle.exports.proofs.runs.sarnaqel_runs.Tie as tie
+use Rattle.exports_by_value.proofs.runs.runs_fed.Statement.{statement}
+use Rattle.exports_by_value.proofs.runs.runs_fed.Tie as tie
 
 abbrev Inv-loop : tie.InvT-loop
 Inv-loop input most line₀ up₀ link₀ sum₀ at₀ line up link sum at =
@@ -28,11 +28,8 @@ Inv-loop input most line₀ up₀ link₀ sum₀ at₀ line up link sum at =
 abbrev μ-loop : tie.MeasureT-loop
 μ-loop input most line₀ up₀ link₀ sum₀ at₀ line up link sum at = length input - at
 
-open-requires : tie.Need-open-requires Inv-loop μ-loop
-open-requires c κs = search needs
-
 loop-holds : tie.Need-loop-holds Inv-loop μ-loop
-loop-holds c = (omega arith, refl, refl, length (now (c .before .before .before .before .args .input)), omega arith, refl)
+loop-holds c = (omega arith, refl, refl, length (now (c .before .before .before .args .input)), omega arith, refl)
 
 sub-left : tie.Need-sub-left Inv-loop μ-loop
 sub-left c = omega arith
@@ -77,12 +74,11 @@ returns c =
     let at-least = at-bytes .before .before .before .before in
     let at-loop-test = at-least .before in
     let at-loop = at-loop-test .before in
-    let start = at-loop .before .before .before .before .before in
+    let start = at-loop .before .before .before .before in
     let l = at-loop .loop in
     let a = start .args in
-    let start = ap (λ (x : Link). runsFed (length (now (a .input))) (checks (now (a .line)) (now (a .up)) Passes) (a .most) (fed x (now (a .line)) (now (a .up)) 0) (now (a .input))) (sym (at-loop .before .«open» .ensures)) in
     ended _ _ _ _ _
-    (start ∙ l .inv .5
+    (l .inv .5
     ∙ runs-stop (now (a .line)) (now (a .up)) (a .most) (now (a .input)) (l .link) (l .line) (l .up) (l .sum) (l .at) _ _ _ _ _ _ _ _
     (part-given (l .at) _ (a .most) (now (a .input)) (at-least .least .ensures)) (l .inv .1) (l .inv .2) (at-bytes .bytes .ensures) (at-tale-of .tale-of .ensures .0) (at-tale-of .tale-of .ensures .1) (c .before .before .mix .ensures) (c .before .mix2 .ensures)
     (l .inv .3) (at-loop-test .loop-test .taken) (omega arith) (c .if1 .taken))
@@ -93,12 +89,12 @@ add-at c =
     let at-bytes = at-tale-of .before .before .before .before .before .before in
     let at-least = at-bytes .before .before .before .before in
     let at-loop = at-least .before .before in
-    let start = at-loop .before .before .before .before .before in
+    let start = at-loop .before .before .before .before in
     let l = at-loop .loop in
     let a = start .args in
     let most = taken-left (now (a .line)) (now (a .up)) (a .most) (now (a .input)) (l .link) (l .line) (l .up) (l .sum) (l .at) _ _ _ _ _ _ _ _
     (part-given (l .at) _ (a .most) (now (a .input)) (at-least .least .ensures)) (l .inv .1) (l .inv .2) (at-bytes .bytes .ensures) (at-tale-of .tale-of .ensures .0) (at-tale-of .tale-of .ensures .1) (c .before .before .mix .ensures) (c .before .mix2 .ensures) in
-    omega (arith, start .good .0 .0, most)
+    omega (arith, start .good .1 .0, most)
 
 loop-less : tie.Need-loop-less Inv-loop μ-loop
 loop-less c =
@@ -106,7 +102,7 @@ loop-less c =
     let at-bytes = at-tale-of .before .before .before .before .before .before in
     let at-least = at-bytes .before .before .before .before in
     let at-loop = at-least .before .before in
-    let start = at-loop .before .before .before .before .before in
+    let start = at-loop .before .before .before .before in
     let l = at-loop .loop in
     let a = start .args in
     let most = taken-left (now (a .line)) (now (a .up)) (a .most) (now (a .input)) (l .link) (l .line) (l .up) (l .sum) (l .at) _ _ _ _ _ _ _ _
@@ -118,7 +114,7 @@ loop-again c =
     let mid = c .before .before .before .before .before .before .before in
     let at-loop = mid .before .before .before .before .before .before .before .before in
     let l = at-loop .loop in
-    let a = at-loop .before .before .before .before .before .args in
+    let a = at-loop .before .before .before .before .args in
     let most = taken-left (now (a .line)) (now (a .up)) (a .most) (now (a .input)) (l .link) (l .line) (l .up) (l .sum) (l .at) _ _ _ _ _ _ _ _
     (part-given (l .at) _ (a .most) (now (a .input)) (mid .before .before .before .before .before .before .least .ensures)) (l .inv .1) (l .inv .2) (mid .before .before .bytes .ensures) (c .before .before .before .tale-of .ensures .0) (c .before .before .before .tale-of .ensures .1) (c .before .before .mix .ensures) (c .before .mix2 .ensures) in (
       omega (arith, most),
@@ -141,19 +137,17 @@ same-length-4 c = omega arith
 returns-2 : tie.Need-returns-2 Inv-loop μ-loop
 returns-2 c =
     let l = c .before .loop in
-    let a = c .before .before .before .before .before .before .args in
-    let start = ap (λ (x : Link). runsFed (length (now (a .input))) (checks (now (a .line)) (now (a .up)) Passes) (a .most) (fed x (now (a .line)) (now (a .up)) 0) (now (a .input))) (sym (c .before .before .«open» .ensures)) in
+    let a = c .before .before .before .before .before .args in
     ended _ (l .link) (l .line) (l .up) (l .sum)
-    (start ∙ l .inv .5
+    (l .inv .5
     ∙ runs-end (now (a .line)) (now (a .up)) (a .most) (now (a .input)) (l .link) (l .line) (l .up) (l .sum) (l .at) (l .inv .3) (c .loop-test .left))
 
-pub sarnaqel-runs-spec : {M : Type 1} → statement M
-sarnaqel-runs-spec =
+pub runs-fed-spec : {M : Type 1} → statement M
+runs-fed-spec =
     tie.close
     (tie.spec
     Inv-loop
     μ-loop
-    open-requires
     loop-holds
     sub-left
     least-requires

@@ -1,10 +1,10 @@
--- `exports::runs::heard_fed` meets its contract: the bytes are heard from where the link begins.
+-- `exports_by_value::runs::heard_fed` meets its contract: the bytes are heard from where the link begins.
 -- Assumes nothing.
 use denote.Ref.{now}
 use Rattle.exports.proofs.Feeds.{heard-on}
 use borrow.Author.Needs.{needs}
-use Rattle.exports.proofs.runs.heard_fed.Statement.{statement}
-use Rattle.exports.proofs.runs.heard_fed.Tie as tie
+use Rattle.exports_by_value.proofs.runs.heard_fed.Statement.{statement}
+use Rattle.exports_by_value.proofs.runs.heard_fed.Tie as tie
 
 asked-requires : tie.Need-asked-requires
 asked-requires c κs = search needs

@@ -1,11 +1,13 @@
--- `exports::runs::sarnaqel_ticks` meets its contract: the ticks start from what `heard_fed` leaves.
+-- `exports_by_value::runs::sarnaqel_by_value_ticks` meets its contract: the ticks start from what `heard_fed` leaves.
 -- Assumes nothing.
 use native.Mathlib.Omega.{arith}
 use denote.Ref.{now}
-use Rattle.exports.proofs.Feeds.{ready-ticks}
+use Rattle.step.specs.declared.checks.Checked.{Checked}
+use Rattle.exports.specs.Feeding.{Fed, ticksFed}
+use Rattle.exports.proofs.Feeds.{ready-on}
 use borrow.Author.Needs.{needs}
-use Rattle.exports.proofs.runs.sarnaqel_ticks.Statement.{statement}
-use Rattle.exports.proofs.runs.sarnaqel_ticks.Tie as tie
+use Rattle.exports_by_value.proofs.runs.sarnaqel_by_value_ticks.Statement.{statement}
+use Rattle.exports_by_value.proofs.runs.sarnaqel_by_value_ticks.Tie as tie
 
 heard-fed-requires : tie.Need-heard-fed-requires
 heard-fed-requires c κs = search needs
@@ -25,8 +27,9 @@ returns c =
     let at-heard-fed = at-ticks-fed .before .before .before .before .before .before .before in
     let start = at-heard-fed .before .before .before .before .before .before .before in
     let a = start .args in
-    ready-ticks _ (at-heard-fed .heard-fed .result) _ _ (now (a .line)) (now (a .up)) _ _ (a .n) _ (omega arith) (omega arith) (at-heard-fed .heard-fed .ensures) (at-ticks-fed .ticks-fed .ensures)
+    ready-on (λ (k : Checked) (f : Fed). ticksFed k f (a .n)) _ (at-heard-fed .heard-fed .result) _ _ (now (a .line)) (now (a .up)) _ _ _ (omega arith) (omega arith)
+    (at-heard-fed .heard-fed .ensures) (at-ticks-fed .ticks-fed .ensures)
 
-pub sarnaqel-ticks-spec : {M : Type 1} → statement M
-sarnaqel-ticks-spec =
+pub sarnaqel-by-value-ticks-spec : {M : Type 1} → statement M
+sarnaqel-by-value-ticks-spec =
     tie.close (tie.spec heard-fed-requires ticks-fed-requires same-length same-length-2 returns)

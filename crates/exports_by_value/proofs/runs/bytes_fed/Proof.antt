@@ -1,4 +1,4 @@
--- `exports::runs::bytes_fed` meets its contract: the invariant is that the bytes left, from here, give what all of them give.
+-- `exports_by_value::runs::bytes_fed` meets its contract: the invariant is that the bytes left, from here, give what all of them give.
 -- Assumes nothing.
 use mathlib.Core.Path.{_≡_, refl, _∙_}
 use Prim.Native.Nat.{_≤_, _-_}
@@ -8,10 +8,10 @@ use lib.ListN.{length, drop}
 use denote.Ref.{now}
 use Rattle.step.specs.Checks.{checks}
 use Rattle.step.specs.declared.checks.Checked.the-variants.{Passes}
 use Rattle.exports.specs.Feeding.{at, bytesFed}
 use Rattle.exports.proofs.Feeds.{bytes-on, bytes-end}
-use Rattle.exports.proofs.runs.bytes_fed.Statement.{statement}
-use Rattle.exports.proofs.runs.bytes_fed.Tie as tie
+use Rattle.exports_by_value.proofs.runs.bytes_fed.Statement.{statement}
+use Rattle.exports_by_value.proofs.runs.bytes_fed.Tie as tie
 
 abbrev Inv-loop : tie.InvT-loop
 Inv-loop input line₀ up₀ link₀ sum₀ i₀ line up link sum i =

@@ -1,10 +1,10 @@
--- `exports::runs::asked` meets its contract: the session's promise, if one is asked for.
+-- `exports_by_value::runs::asked` meets its contract: the session's promise, if one is asked for.
 -- Assumes nothing.
 use denote.Ref.{now}
 use Rattle.exports.proofs.Feeds.{asked-on, asked-not}
 use borrow.Author.Needs.{needs}
-use Rattle.exports.proofs.runs.asked.Statement.{statement}
-use Rattle.exports.proofs.runs.asked.Tie as tie
+use Rattle.exports_by_value.proofs.runs.asked.Statement.{statement}
+use Rattle.exports_by_value.proofs.runs.asked.Tie as tie
 
 open-requires : tie.Need-open-requires
 open-requires c κs = search needs

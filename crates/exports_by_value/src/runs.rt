@@ -1,38 +1,15 @@
-// Whole inputs given to a fresh link, call by call. What the calls told comes back as one number.
-use crate::numbers::answer_number;
-use crate::numbers::mix;
-use crate::numbers::tale_of;
+// Whole inputs given to a link by value, call by call. What the calls told comes back as one number.
+// Every call of a link has one place in this module, since LLVM inlines what is called once. The measured calls go to
+// a link that was prepared by other calls, so LLVM knows nothing of its state.
+use exports::answer_number;
+use exports::mix;
+use exports::tale_of;
 use link::Link;
 ghost use mathlib.Core.Path.{_≡_};
 ghost use lib.ListN.{length};
 ghost use Rattle.step.specs.Checks.{checks};
 ghost use Rattle.step.specs.declared.checks.Checked.the-variants.{Passes};
 ghost use Rattle.exports.specs.Feeding.{FedTo, at, opened, asked, heardFed, bytesFed, ticksFed, runsFed};
-
-// Runs of at most so many bytes, until all are taken.
-#[no_mangle]
-pub extern "C" fn sarnaqel_runs(input: &[u8], most: usize, line: &mut [u8], up: &mut [u8]) -> u64
-    ensures { λ r. ⌜ FedTo (runsFed (length (now (input .entry))) (checks (now (line .entry)) (now (up .entry)) Passes) most (opened (now (line .entry)) (now (up .entry))) (now (input .entry))) r (now (line .exit)) (now (up .exit)) ⌝ }
-{
-    let mut link = Link::open();
-    let mut sum = 0;
-    let mut at = 0;
-    while at < input.len() {
-        let left = input.len() - at;
-        let end = at + frame::least(left, most);
-        let ran = link.bytes(&input[at..end], line, up);
-        link = ran.link;
-        let answer = ran.answer;
-        let run = tale_of(answer);
-        sum = mix(mix(sum, run.number), run.taken as u64);
-        let taken = run.taken;
-        if taken == 0 {
-            return sum;
-        }
-        at += taken;
-    }
-    sum
-}
 
 // What a link came to, and the number so far.
 struct FedLink {
@@ -40,7 +17,7 @@ struct FedLink {
     sum: u64,
 }
 
-// Every byte in a call of its own. Every call of a link has one place in this module, since LLVM inlines what is called once.
+// Every byte in a call of its own.
 fn bytes_fed(start: Link, input: &[u8], line: &mut [u8], up: &mut [u8]) -> FedLink
     ensures { λ r. ⌜ bytesFed (checks (now (line .entry)) (now (up .entry)) Passes) (at start (now (line .entry)) (now (up .entry)) 0) (now (input .entry)) ≡ at (r .link) (now (line .exit)) (now (up .exit)) (r .sum) ⌝ }
 {
@@ -58,16 +35,6 @@ fn bytes_fed(start: Link, input: &[u8], line: &mut [u8], up: &mut [u8]) -> FedLi
         link: link,
         sum: sum,
     }
-}
-
-// The same from a fresh link.
-#[no_mangle]
-pub extern "C" fn sarnaqel_bytes(input: &[u8], line: &mut [u8], up: &mut [u8]) -> u64
-    ensures { λ r. ⌜ FedTo (bytesFed (checks (now (line .entry)) (now (up .entry)) Passes) (opened (now (line .entry)) (now (up .entry))) (now (input .entry))) r (now (line .exit)) (now (up .exit)) ⌝ }
-{
-    let fresh = Link::open();
-    let reached = bytes_fed(fresh, input, line, up);
-    reached.sum
 }
 
 // A fresh link on which a session is asked for, or not.
@@ -89,7 +56,32 @@ fn heard_fed(asks: bool, parameters: &[u8], heard: &[u8], line: &mut [u8], up: &
 {
     let link = asked(asks, parameters, line, up);
     let reached = bytes_fed(link, heard, line, up);
-    reached.link
+    let ready = reached.link;
+    ready
+}
+
+// Runs of at most so many bytes, until all are taken or a run takes none.
+fn runs_fed(start: Link, input: &[u8], most: usize, line: &mut [u8], up: &mut [u8]) -> u64
+    ensures { λ r. ⌜ FedTo (runsFed (length (now (input .entry))) (checks (now (line .entry)) (now (up .entry)) Passes) most (at start (now (line .entry)) (now (up .entry)) 0) (now (input .entry))) r (now (line .exit)) (now (up .exit)) ⌝ }
+{
+    let mut link = start;
+    let mut sum = 0;
+    let mut at = 0;
+    while at < input.len() {
+        let left = input.len() - at;
+        let end = at + frame::least(left, most);
+        let ran = link.bytes(&input[at..end], line, up);
+        link = ran.link;
+        let answer = ran.answer;
+        let run = tale_of(answer);
+        sum = mix(mix(sum, run.number), run.taken as u64);
+        let taken = run.taken;
+        if taken == 0 {
+            return sum;
+        }
+        at += taken;
+    }
+    sum
 }
 
 // So many ticks.
@@ -109,9 +101,43 @@ fn ticks_fed(start: Link, n: u64, line: &mut [u8], up: &mut [u8]) -> u64
     sum
 }
 
+// Runs of the input on a link prepared in this way.
+#[no_mangle]
+pub extern "C" fn sarnaqel_by_value_runs(
+    asks: bool,
+    parameters: &[u8],
+    heard: &[u8],
+    input: &[u8],
+    most: usize,
+    line: &mut [u8],
+    up: &mut [u8],
+) -> u64
+    ensures { λ r. ⌜ FedTo (runsFed (length (now (input .entry))) (checks (now (line .entry)) (now (up .entry)) Passes) most (heardFed (now (heard .entry)) (asked asks (now (parameters .entry)) (opened (now (line .entry)) (now (up .entry))))) (now (input .entry))) r (now (line .exit)) (now (up .exit)) ⌝ }
+{
+    let link = heard_fed(asks, parameters, heard, line, up);
+    runs_fed(link, input, most, line, up)
+}
+
+// Every byte of the input in a call of its own, on a link prepared in this way.
+#[no_mangle]
+pub extern "C" fn sarnaqel_by_value_bytes(
+    asks: bool,
+    parameters: &[u8],
+    heard: &[u8],
+    input: &[u8],
+    line: &mut [u8],
+    up: &mut [u8],
+) -> u64
+    ensures { λ r. ⌜ FedTo (bytesFed (checks (now (line .entry)) (now (up .entry)) Passes) (heardFed (now (heard .entry)) (asked asks (now (parameters .entry)) (opened (now (line .entry)) (now (up .entry))))) (now (input .entry))) r (now (line .exit)) (now (up .exit)) ⌝ }
+{
+    let link = heard_fed(asks, parameters, heard, line, up);
+    let reached = bytes_fed(link, input, line, up);
+    reached.sum
+}
+
 // So many ticks on a link prepared in this way.
 #[no_mangle]
-pub extern "C" fn sarnaqel_ticks(
+pub extern "C" fn sarnaqel_by_value_ticks(
     asks: bool,
     parameters: &[u8],
     heard: &[u8],
