@@ -1,3 +1,3 @@
-pub mod Idle
+pub mod Aside
 pub mod Passed
 pub mod Theorems

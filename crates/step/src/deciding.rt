@@ -4,7 +4,6 @@ use hearing::Event;
 use job::Act;
 use job::Asking;
 use job::Job;
-use job::is_open;
 use job::on_abort;
 use job::on_tick;
 use job::start;
@@ -22,11 +21,10 @@ use sending::awaited_by;
 use sending::on_event;
 use sending::on_restart;
 ghost use mathlib.Core.Path.{_≡_};
+ghost use mathlib.Core.Bool.{false};
 ghost use Prim.Native.Nat.{ℕ};
 ghost use Rattle.rules.specs.Rules.{base};
-ghost use Rattle.job.specs.Job as jobs;
-ghost use Rattle.sending.specs.Events as events;
-ghost use Rattle.job.specs.declared.job.Job.the-variants as job;
+ghost use Rattle.step.specs.Contracts as ways;
 ghost use Rattle.step.specs.Deciding as spec;
 
 // What a call decides, before a lent byte is written; hearing and the held frame's length stand beside it.
@@ -90,9 +88,42 @@ fn decide_open(job: Job, bad: u8, size: u16, event: Event) -> Outcome
     decided(said, sums, act)
 }
 
-// With no job open, 06, 15 and 18 are stray, and nothing else concerns the sender.
+// A single byte is awaited only by a copy that waits for its ACK.
+fn is_waiting(job: Job) -> bool
+    ensures { λ r. ⌜ r ≡ ways.isWaiting job ⌝ }
+{
+    if let Job::Waiting { .. } = job {
+        return true;
+    }
+    false
+}
+
+// The end of a frame matters to a due copy, which then goes out, and to a session that awaits its response.
+fn heeds_ends(job: Job) -> bool
+    ensures { λ r. ⌜ r ≡ ways.heedsEnds job ⌝ }
+{
+    match job {
+        Job::Due { .. } => true,
+        Job::Awaiting { .. } => true,
+        _ => false,
+    }
+}
+
+// Whether an event may do something to this job: a tick or an abort to any.
+fn concerns(event: Event, job: Job) -> bool
+    ensures { λ r. ⌜ r ≡ ways.concerns event job ⌝ }
+{
+    match event {
+        Event::Inside | Event::Kept { at: _ } | Event::Skipped => false,
+        Event::Alone(_) => is_waiting(job),
+        Event::Ended(_) => heeds_ends(job),
+        _ => true,
+    }
+}
+
+// To a job that an event does not concern, 06, 15 and 18 are stray, and the rest is nothing.
 fn stray_on(event: Event) -> Sending
-    ensures { λ r. ⌜ ((size : ℕ) → events.onEvent base size event job.Idle ≡ jobs.goesOn job.Idle r) ⌝ }
+    ensures { λ r. ⌜ r ≡ ways.strayOn event ⌝ }
 {
     match event {
         Event::Alone(_) => Sending::Stray,
@@ -100,9 +131,9 @@ fn stray_on(event: Event) -> Sending
     }
 }
 
-// The same with no job open: short, and what a run of bytes mostly meets.
-fn decide_idle(bad: u8, event: Event) -> Outcome
-    ensures { λ r. ⌜ ((size : ℕ) → r ≡ spec.decide base size event job.Idle bad) ⌝ }
+// The same for an event that does not concern the job: short, and what a byte or a run of bytes mostly meets.
+fn decide_aside(job: Job, bad: u8, event: Event) -> Outcome
+    ensures { λ r. ⌜ (ways.concerns event job ≡ false → (size : ℕ) → r ≡ spec.decide base size event job bad) ⌝ }
 {
     let said = said_on(event, Awaited::Nothing);
     let sums = sums_on(event, bad);
@@ -111,7 +142,7 @@ fn decide_idle(bad: u8, event: Event) -> Outcome
     let reply = said.reply;
     let reset = sums.reset;
     Outcome {
-        job: Job::Idle,
+        job: job,
         bad: sums.bad,
         reception: reception,
         sending: sending,
@@ -123,14 +154,14 @@ fn decide_idle(bad: u8, event: Event) -> Outcome
     }
 }
 
-// What an event decides, by whether a job is open.
+// What an event decides, by whether it concerns the job.
 pub fn decide(job: Job, bad: u8, size: u16, event: Event) -> Outcome
     ensures { λ r. ⌜ r ≡ spec.decide base size event job bad ⌝ }
 {
-    if is_open(job) {
+    if concerns(event, job) {
         return decide_open(job, bad, size, event);
     }
-    decide_idle(bad, event)
+    decide_aside(job, bad, event)
 }
 
 // An act beside which reception says this, and puts out no byte.
