@@ -16,3 +16,4 @@ pub mod AsRead
 pub mod Receives
 pub mod HandedUp
 pub mod Promise
+pub mod InPlace

@@ -114,7 +114,7 @@ module _ (R : Rules) (l : Link) where
             };
       }
 
-  promised : (p : Played) (m : Link) → Promised R l p m → Performs R l p m
+  pub promised : (p : Played) (m : Link) → Promised R l p m → Performs R l p m
   promised p m (byteCall b line up r line′ up′ k) = byte-tied b line up r line′ up′ k
   promised p m (bytesCall bs line up r line′ up′ k) = run-tied bs line up r line′ up′ k
   promised p m (tickCall line up r line′ up′ k) = tick-tied line up r line′ up′ k

@@ -1,6 +1,7 @@
 pub mod Perform
 pub mod History
 pub mod Played
+pub mod PlayedIn
 pub mod Cut
 pub mod Watch
 pub mod Bound

@@ -1,4 +1,4 @@
--- `link::link::Link::bytes` meets its contract.
+-- `link::in_place::bytes_in` meets its contract.
 -- Assumes nothing.
 use mathlib.Core.Path.{sym, ap, _∙_}
 use lib.ListN.{length}
@@ -10,14 +10,14 @@ use Rattle.step.specs.declared.checks.Checked.the-variants.{Passes}
 use Rattle.step.proofs.Passed.{has-room}
 use Rattle.writing.proofs.Puts.{line-in, up-in}
 use Rattle.link.specs.Out.{Taken, outReport, runOut}
+use Rattle.link.specs.InPlace.{linkOf}
 use Rattle.link.specs.declared.calls.RunAnswer.the-variants as run
 use Rattle.link.specs.declared.calls.Ran.{Ran}
-use Rattle.link.proofs.Hears.{reached, runs, hear-length, up-counts}
-use Rattle.link.proofs.Sizes.{sizes}
+use Rattle.link.proofs.Hears.{reached, runs, hear-length, up-counts, line-counts}
 use Rattle.link.proofs.Ways.{short, roomy, refuse-run, give-run}
 use borrow.Author.Needs.{needs}
-use Rattle.link.proofs.link.Link.bytes.Statement.{statement}
-use Rattle.link.proofs.link.Link.bytes.Tie as tie
+use Rattle.link.proofs.in_place.bytes_in.Statement.{statement}
+use Rattle.link.proofs.in_place.bytes_in.Tie as tie
 
 abbrev answer-of : Taken → Ran
 answer-of q = record { link = q .out .link; answer = run.Done (outReport (q .out)) (q .taken) }
@@ -28,9 +28,16 @@ lacks-room-requires c κs = search needs
 returns : tie.Need-returns
 returns c =
     let a = c .before .before .before .before .before .args in
+    let l = linkOf (a .core) (now (a .body)) (now (a .frame)) in
     let line = now (a .line) in
     let up = now (a .up) in
-    refuse-run (runOut base (a .self) (now (a .bytes))) (a .self) line up (short line up Passes (sym (c .before .lacks-room .ensures) ∙ c .if1 .taken))
+    refuse-run (runOut base l (now (a .bytes))) l line up (short line up Passes (sym (c .before .lacks-room .ensures) ∙ c .if1 .taken))
+
+sized-requires : tie.Need-sized-requires
+sized-requires c κs = search needs
+
+sized-requires-2 : tie.Need-sized-requires-2
+sized-requires-2 c κs = search needs
 
 hear-run-requires : tie.Need-hear-run-requires
 hear-run-requires c κs = search needs
@@ -59,38 +66,46 @@ same-length-2 c = search needs
 returns-2 : tie.Need-returns-2
 returns-2 c =
     let at-put-up = c .before .before .before .before in
-    let at-put-up-2 = at-put-up .before .before in
-    let at-put-line = at-put-up-2 .before .before .before .before .before in
-    let at-decide = at-put-line .before .before .before .before .before in
+    let at-put-line = at-put-up .before .before .before .before .before .before in
+    let at-decide = at-put-line .before .before .before in
     let at-hear-run = at-decide .before in
-    let at-if1 = at-hear-run .before .before .before in
+    let at-frame = at-hear-run .before .before .before in
+    let at-body = at-frame .before .before in
+    let at-if1 = at-body .before .before in
     let at-lacks-room = at-if1 .before in
-    let start = at-lacks-room .before .before .before .before in
-    let a = start .args in
+    let a = at-lacks-room .before .before .before .before .args in
+    let body = now (a .body) in
+    let frame = now (a .frame) in
     let line = now (a .line) in
     let up = now (a .up) in
-    let z = sizes (a .self) _ (start .good .0) in
+    let bytes = now (a .bytes) in
+    let l = linkOf (a .core) body frame in
+    let s = at-body .sized-arg2 .given .0 in
     let r = sym (at-lacks-room .lacks-room .ensures) ∙ at-if1 .if1 .left in
     let w = has-room (length line) (length up) r in
-    let h = at-hear-run .hear-run .ensures (z .0) .all in
+    let h = at-hear-run .hear-run .ensures s .all in
     let d = at-decide .decide .ensures in
-    let l = line-in (at-put-line .put-line .ensures) (z .1) (w .0) in
-    let g = at-put-up-2 .put-up-arg2 .given .0 in
+    let o = at-put-line .put-line .ensures in
+    let e = at-put-line .before .before .put-line-arg .given .0 in
+    let g = at-put-up .before .before .put-up-arg2 .given .0 in
     let p = at-put-up .put-up .ensures in
-    let u = up-in p g (w .1) in
-    let n = up-counts p g (w .1) (ap (λ (f : Far). f .body) h) (hear-length (unheard (a .self .core .hearing) (a .self .body)) (now (a .bytes)) ∙ z .0) in
-    let t = sym (runs base (a .self) (now (a .bytes))) in
-    give-run (runOut base (a .self) (now (a .bytes))) (a .self) line up (roomy line up Passes r)
-    (simp (c .core-of .ensures, c .before .report-of .ensures, l .count, n, d)
-    (ap (λ (f : Far). answer-of (reached base (a .self) f)) h ∙ ap answer-of t))
-    (l .left ∙ simp d (ap (λ (f : Far). over (reached base (a .self) f .out .line) line) h ∙ ap (λ (q : Taken). over (q .out .line) line) t)) (u .left ∙ simp d (ap (λ (f : Far). over (reached base (a .self) f .out .up) up) h ∙ ap (λ (q : Taken). over (q .out .up) up) t))
+    let m = line-counts o e (w .0) frame (at-frame .sized-arg3 .given .0) in
+    let n = up-counts p g (w .1) (ap (λ (f : Far). f .body) h) (hear-length (unheard (a .core .hearing) body) bytes ∙ s) in
+    let t = sym (runs base l bytes) in
+    give-run (runOut base l bytes) l line up (roomy line up Passes r)
+    (simp (c .core-of .ensures, c .before .report-of .ensures, m, n, d)
+    (ap (λ (f : Far). answer-of (reached base l f)) h ∙ ap answer-of t))
+    (line-in o e (w .0) .left ∙ simp d (ap (λ (f : Far). over (reached base l f .out .line) line) h ∙ ap (λ (q : Taken). over (q .out .line) line) t))
+    (up-in p g (w .1) .left ∙ simp d (ap (λ (f : Far). over (reached base l f .out .up) up) h ∙ ap (λ (q : Taken). over (q .out .up) up) t))
 
-pub bytes-spec : {M : Type 1} → statement M
-bytes-spec =
+pub bytes-in-spec : {M : Type 1} → statement M
+bytes-in-spec =
     tie.close
     (tie.spec
     lacks-room-requires
     returns
+    sized-requires
+    sized-requires-2
     hear-run-requires
     decide-requires
     put-line-requires

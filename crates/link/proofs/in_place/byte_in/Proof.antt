@@ -1,0 +1,139 @@
+-- `link::in_place::byte_in` meets its contract.
+-- Assumes nothing.
+use mathlib.Core.Path.{refl, sym, _∙_}
+use lib.ListN.{length}
+use denote.Ref.{now}
+use Rattle.rules.specs.Rules.{base}
+use Rattle.hearing.proofs.Theorems.{keep-length}
+use Rattle.step.specs.declared.checks.Checked.the-variants.{Passes}
+use Rattle.step.proofs.Passed.{has-room}
+use Rattle.writing.proofs.Puts.{line-in, up-in}
+use Rattle.link.specs.Out.{byteOut}
+use Rattle.link.specs.InPlace.{linkOf}
+use Rattle.link.proofs.Hears.{up-counts, line-counts}
+use Rattle.link.proofs.Ways.{short, roomy, refuse-in, give, accept}
+use borrow.Author.Needs.{needs}
+use Rattle.link.proofs.in_place.byte_in.Statement.{statement}
+use Rattle.link.proofs.in_place.byte_in.Tie as tie
+
+lacks-room-requires : tie.Need-lacks-room-requires
+lacks-room-requires c κs = search needs
+
+refused-in-requires : tie.Need-refused-in-requires
+refused-in-requires c κs = search needs
+
+returns : tie.Need-returns
+returns c =
+    let a = c .before .before .before .before .before .args in
+    let l = linkOf (a .core) (now (a .body)) (now (a .frame)) in
+    let line = now (a .line) in
+    let up = now (a .up) in
+    refuse-in Passes (byteOut base l (a .b)) (a .core) (now (a .body)) (now (a .frame)) line up (short line up Passes (sym (c .before .before .lacks-room .ensures) ∙ c .before .if1 .taken))
+    (c .refused-in .ensures)
+
+enum-known-inside : tie.Need-enum-known-inside
+enum-known-inside c = search needs
+
+body-in-requires : tie.Need-body-in-requires
+body-in-requires c κs = search needs
+
+returns-2 : tie.Need-returns-2
+returns-2 c =
+    let at-if1 = c .before .before .before .before .before .before .before in
+    let at-lacks-room = at-if1 .before in
+    let a = at-lacks-room .before .before .before .args in
+    let l = linkOf (a .core) (now (a .body)) (now (a .frame)) in
+    let line = now (a .line) in
+    let up = now (a .up) in
+    accept Passes (byteOut base l (a .b)) l line up (roomy line up Passes (sym (at-lacks-room .lacks-room .ensures) ∙ at-if1 .if1 .left)) refl
+    (c .body-in .ensures (now (a .frame)) line)
+
+sized-requires : tie.Need-sized-requires
+sized-requires c κs = search needs
+
+sized-requires-2 : tie.Need-sized-requires-2
+sized-requires-2 c κs = search needs
+
+hear-byte-requires : tie.Need-hear-byte-requires
+hear-byte-requires c κs = search needs
+
+decide-requires : tie.Need-decide-requires
+decide-requires c κs = search needs
+
+keep-requires : tie.Need-keep-requires
+keep-requires c κs = search needs
+
+put-line-requires : tie.Need-put-line-requires
+put-line-requires c κs = search needs
+
+put-up-requires : tie.Need-put-up-requires
+put-up-requires c κs = search needs
+
+report-of-requires : tie.Need-report-of-requires
+report-of-requires c κs = search needs
+
+core-of-requires : tie.Need-core-of-requires
+core-of-requires c κs = search needs
+
+same-length : tie.Need-same-length
+same-length c = search needs
+
+same-length-2 : tie.Need-same-length-2
+same-length-2 c = search needs
+
+returns-3 : tie.Need-returns-3
+unfolding byteOut
+returns-3 c =
+    let at-put-up = c .before .before .before .before in
+    let at-put-line = at-put-up .before .before .before .before .before .before in
+    let at-keep = at-put-line .before .before .before in
+    let at-decide = at-keep .before .before in
+    let at-hear-byte = at-decide .before in
+    let at-frame = at-hear-byte .before .before in
+    let at-body = at-frame .before .before in
+    let at-if1 = at-body .before .before .before in
+    let at-lacks-room = at-if1 .before in
+    let a = at-lacks-room .before .before .before .args in
+    let body = now (a .body) in
+    let frame = now (a .frame) in
+    let line = now (a .line) in
+    let up = now (a .up) in
+    let s = at-body .sized-arg2 .given .0 in
+    let r = sym (at-lacks-room .lacks-room .ensures) ∙ at-if1 .if1 .left in
+    let w = has-room (length line) (length up) r in
+    let h = at-hear-byte .hear-byte .ensures in
+    let d = at-decide .decide .ensures in
+    let k = at-keep .keep .ensures s in
+    let o = at-put-line .put-line .ensures in
+    let f = at-put-line .before .before .put-line-arg .given .0 in
+    let g = at-put-up .before .before .put-up-arg2 .given .0 in
+    let p = at-put-up .put-up .ensures in
+    let m = line-counts o f (w .0) frame (at-frame .sized-arg3 .given .0) in
+    let n = up-counts p g (w .1) k (keep-length (at-hear-byte .hear-byte .result .event) (a .b) body ∙ s) in
+    let l = linkOf (a .core) body frame in
+    give Passes (byteOut base l (a .b)) l line up (roomy line up Passes r)
+    (simp (c .core-of .ensures, c .before .report-of .ensures, m, n, k, d, h))
+    (line-in o f (w .0) .left ∙ simp (d, h)) (up-in p g (w .1) .left ∙ simp (k, d, h))
+
+pub byte-in-spec : {M : Type 1} → statement M
+byte-in-spec =
+    tie.close
+    (tie.spec
+    lacks-room-requires
+    refused-in-requires
+    returns
+    enum-known-inside
+    body-in-requires
+    returns-2
+    sized-requires
+    sized-requires-2
+    hear-byte-requires
+    decide-requires
+    keep-requires
+    put-line-requires
+    put-up-requires
+    report-of-requires
+    core-of-requires
+    same-length
+    same-length-2
+    returns-3)
