@@ -5,15 +5,14 @@
 -- Assumes nothing.
 use mathlib.Core.Path.{_≡_, sym, ap, _∙_}
 use mathlib.Core.List.{List}
+use Prim.Native.Nat.{ℕ}
 use Rattle.rules.specs.Rules.{Rules}
 use Rattle.step.specs.declared.core.Core.{Core}
-use Prim.Native.Nat.{ℕ}
-use Rattle.frame.specs.Bytes.{over}
 use Rattle.link.specs.InPlace.{linkOf, together, ranTogether}
 use Rattle.link.specs.declared.link.Link.{Link}
-use Rattle.history.specs.Perform.{Call, perform}
+use Rattle.history.specs.Perform.{What, Call, perform}
 use Rattle.history.specs.History.{next, run, after}
-use Rattle.history.specs.Played.{Played, Promised, byteCall, bytesCall, tickCall, sendCall, sessionCall, restartCall, Plays, noCalls, then, callOf, callsOf, toldOf, lineOf, upOf, AllTied, Performs}
+use Rattle.history.specs.Played.{Played, Promised, byteCall, bytesCall, tickCall, sendCall, sessionCall, restartCall, Plays, noCalls, then, callOf, callsOf, toldOf, AllTied}
 use Rattle.history.specs.PlayedIn.{Parts, freshParts, wholeOf, PromisedIn, byteIn, bytesIn, tickIn, sendIn, sessionIn, restartIn, PlaysIn, noCallsIn, thenIn, SameAsked, SameTold}
 use Rattle.history.proofs.Promise.{promised, plays-tied, plays-after}
 
@@ -41,3 +40,22 @@ plays-in-place-tied R k n ps h = plays-tied R (wholeOf k) (wholeOf n) ps (plays-
 
 pub plays-in-place-after : (R : Rules) (n : Parts) (ps : List Played) → PlaysIn R freshParts ps n → wholeOf n ≡ after R (callsOf ps)
 plays-in-place-after R n ps h = plays-after R (wholeOf n) ps (plays-in-place R freshParts n ps h)
+
+-- ---- the same call, both ways
+-- A call of the link and the same call in place on its parts, with the same bytes lent: they are answered the same, leave the same bytes,
+-- and the link handed back is the parts put together. (What each call promises by itself: `put-together`, `run-put-together` of link.)
+pub either-way : (R : Rules) (k n : Parts) (m : Link) (p q : Played) → Promised R (wholeOf k) p m
+    → PromisedIn R (k .core) (k .body) (k .frame) q n → SameAsked p q → (m ≡ wholeOf n) × SameTold p q
+either-way R k n m p q x y s =
+    let l = wholeOf k in
+    let a = promised R l p m x in
+    let b = promised R l q (wholeOf n) (promised-in-place R (k .core) (k .body) (k .frame) q n y) in
+    let c : callOf p ≡ callOf q = simp (s .what, s .line, s .up) in
+    let d = ap (λ (z : Call). perform R l z) c in (
+      a .link ∙ ap (next l) d ∙ sym (b .link),
+      record {
+        told = a .tied .told ∙ ap (λ (w : What). toldOf R l w (perform R l (callOf p))) (s .what) ∙ ap (toldOf R l (q .what)) d ∙ sym (b .tied .told);
+        line-left = a .tied .line-left ∙ simp (s .line, d) (sym (b .tied .line-left));
+        up-left = a .tied .up-left ∙ simp (s .up, d) (sym (b .tied .up-left));
+      },
+    )
