@@ -8,7 +8,7 @@ use mathlib.Core.List.{List}
 use Prim.Native.Nat.{ℕ}
 use Rattle.rules.specs.Rules.{Rules}
 use Rattle.step.specs.declared.core.Core.{Core}
-use Rattle.link.specs.InPlace.{linkOf, together, ranTogether}
+use Rattle.link.specs.InPlace.{linkOf, putTogether, ranPutTogether}
 use Rattle.link.specs.declared.link.Link.{Link}
 use Rattle.history.specs.Perform.{What, Call, perform}
 use Rattle.history.specs.History.{next, run, after}
@@ -19,14 +19,14 @@ use Rattle.history.proofs.Promise.{promised, plays-tied, plays-after}
 -- one call
 promised-in-place : (R : Rules) (core : Core) (body frame : List ℕ) (p : Played) (n : Parts) → PromisedIn R core body frame p n
     → Promised R (linkOf core body frame) p (wholeOf n)
-promised-in-place R core body frame p n (byteIn b line up r body′ line′ up′ k) = byteCall b line up (together r body′ frame) line′ up′ k
-promised-in-place R core body frame p n (bytesIn bs line up r body′ line′ up′ k) = bytesCall bs line up (ranTogether r body′ frame) line′ up′ k
-promised-in-place R core body frame p n (tickIn line up r line′ up′ k) = tickCall line up (together r body frame) line′ up′ (k body)
+promised-in-place R core body frame p n (byteIn b line up r body′ line′ up′ k) = byteCall b line up (putTogether r body′ frame) line′ up′ k
+promised-in-place R core body frame p n (bytesIn bs line up r body′ line′ up′ k) = bytesCall bs line up (ranPutTogether r body′ frame) line′ up′ k
+promised-in-place R core body frame p n (tickIn line up r line′ up′ k) = tickCall line up (putTogether r body frame) line′ up′ (k body)
 promised-in-place R core body frame p n (sendIn kind command ps line up r frame′ line′ up′ k) =
-    sendCall kind command ps line up (together r body frame′) line′ up′ (k body)
+    sendCall kind command ps line up (putTogether r body frame′) line′ up′ (k body)
 promised-in-place R core body frame p n (sessionIn command ps line up r frame′ line′ up′ k) =
-    sessionCall command ps line up (together r body frame′) line′ up′ (k body)
-promised-in-place R core body frame p n (restartIn line up r body′ frame′ line′ up′ k) = restartCall line up (together r body′ frame′) line′ up′ k
+    sessionCall command ps line up (putTogether r body frame′) line′ up′ (k body)
+promised-in-place R core body frame p n (restartIn line up r body′ frame′ line′ up′ k) = restartCall line up (putTogether r body′ frame′) line′ up′ k
 
 -- a whole history
 pub plays-in-place : (R : Rules) (k n : Parts) (ps : List Played) → PlaysIn R k ps n → Plays R (wholeOf k) ps (wholeOf n)

@@ -15,7 +15,7 @@ use Rattle.step.specs.declared.core.Core.{Core}
 use Rattle.link.specs.Link.{noBody, noFrame}
 use Rattle.link.specs.Out.{runOut, byteOut, tickOut, openOut, restartOut}
 use Rattle.link.specs.Calls.{CallPromise, RunPromise}
-use Rattle.link.specs.InPlace.{linkOf, together, ranTogether}
+use Rattle.link.specs.InPlace.{linkOf, putTogether, ranPutTogether}
 use Rattle.link.specs.declared.in_place.AnsweredIn.{AnsweredIn}
 use Rattle.link.specs.declared.in_place.RanIn.{RanIn}
 use Rattle.link.specs.declared.link.Link.{Link}
@@ -42,25 +42,25 @@ wholeOf k = linkOf (k .core) (k .body) (k .frame)
 -- the promise of each call in place, in the words of its contract: with these parts lent it is played so, and leaves those
 pub data PromisedIn (R : Rules) (core : Core) (body frame : List ℕ) : Played → Parts → Type 0 where
   byteIn : (b : ℕ) (line up : List ℕ) (r : AnsweredIn) (body′ line′ up′ : List ℕ)
-      → CallPromise Passes (byteOut R (linkOf core body frame) b) (linkOf core body frame) line up (together r body′ frame) line′ up′
+      → CallPromise Passes (byteOut R (linkOf core body frame) b) (linkOf core body frame) line up (putTogether r body′ frame) line′ up′
       → PromisedIn R core body frame (played (byte b) line up (byCall (r .answer)) line′ up′) (parts (r .core) body′ frame)
   bytesIn : (bs line up : List ℕ) (r : RanIn) (body′ line′ up′ : List ℕ)
-      → RunPromise (runOut R (linkOf core body frame) bs) (linkOf core body frame) line up (ranTogether r body′ frame) line′ up′
+      → RunPromise (runOut R (linkOf core body frame) bs) (linkOf core body frame) line up (ranPutTogether r body′ frame) line′ up′
       → PromisedIn R core body frame (played (bytes bs) line up (byRun (r .answer)) line′ up′) (parts (r .core) body′ frame)
   tickIn : (line up : List ℕ) (r : AnsweredIn) (line′ up′ : List ℕ)
       → ((kept : List ℕ)
-      → CallPromise Passes (tickOut R (linkOf core kept frame)) (linkOf core kept frame) line up (together r kept frame) line′ up′)
+      → CallPromise Passes (tickOut R (linkOf core kept frame)) (linkOf core kept frame) line up (putTogether r kept frame) line′ up′)
       → PromisedIn R core body frame (played tick line up (byCall (r .answer)) line′ up′) (parts (r .core) body frame)
   sendIn : (kind command : ℕ) (ps line up : List ℕ) (r : AnsweredIn) (frame′ line′ up′ : List ℕ)
       → ((kept : List ℕ)
-      → CallPromise (sendOwn (core .job) kind (length ps)) (openOut (linkOf core kept frame) Plain (frameOf kind command ps)) (linkOf core kept frame) line up (together r kept frame′) line′ up′)
+      → CallPromise (sendOwn (core .job) kind (length ps)) (openOut (linkOf core kept frame) Plain (frameOf kind command ps)) (linkOf core kept frame) line up (putTogether r kept frame′) line′ up′)
       → PromisedIn R core body frame (played (send kind command ps) line up (byCall (r .answer)) line′ up′) (parts (r .core) body frame′)
   sessionIn : (command : ℕ) (ps line up : List ℕ) (r : AnsweredIn) (frame′ line′ up′ : List ℕ)
       → ((kept : List ℕ)
-      → CallPromise (sessionOwn (core .job) (length ps)) (openOut (linkOf core kept frame) (Asks command) (frameOf REQ command ps)) (linkOf core kept frame) line up (together r kept frame′) line′ up′)
+      → CallPromise (sessionOwn (core .job) (length ps)) (openOut (linkOf core kept frame) (Asks command) (frameOf REQ command ps)) (linkOf core kept frame) line up (putTogether r kept frame′) line′ up′)
       → PromisedIn R core body frame (played (session command ps) line up (byCall (r .answer)) line′ up′) (parts (r .core) body frame′)
   restartIn : (line up : List ℕ) (r : AnsweredIn) (body′ frame′ line′ up′ : List ℕ)
-      → CallPromise Passes (restartOut (linkOf core body frame)) (linkOf core body frame) line up (together r body′ frame′) line′ up′
+      → CallPromise Passes (restartOut (linkOf core body frame)) (linkOf core body frame) line up (putTogether r body′ frame′) line′ up′
       → PromisedIn R core body frame (played restart line up (byCall (r .answer)) line′ up′) (parts (r .core) body′ frame′)
 
 -- calls in place one after the other, from parts to parts

@@ -14,9 +14,9 @@ abbrev pub linkOf : Core → List ℕ → List ℕ → Link
 linkOf core body frame = record { core = core; body = body; frame = frame }
 
 -- what a call answered, put together with the arrays as it left them
-abbrev pub together : AnsweredIn → List ℕ → List ℕ → Answered
-together r body frame = record { link = linkOf (r .core) body frame; answer = r .answer }
+abbrev pub putTogether : AnsweredIn → List ℕ → List ℕ → Answered
+putTogether r body frame = record { link = linkOf (r .core) body frame; answer = r .answer }
 
 -- and a run of bytes
-abbrev pub ranTogether : RanIn → List ℕ → List ℕ → Ran
-ranTogether r body frame = record { link = linkOf (r .core) body frame; answer = r .answer }
+abbrev pub ranPutTogether : RanIn → List ℕ → List ℕ → Ran
+ranPutTogether r body frame = record { link = linkOf (r .core) body frame; answer = r .answer }

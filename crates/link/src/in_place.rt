@@ -48,7 +48,7 @@ ghost use Rattle.step.specs.declared.checks.Checked.the-variants.{Passes};
 ghost use Rattle.link.specs.declared.calls.Answer.the-variants as answer;
 ghost use Rattle.link.specs.Out.{byteOut, tickOut, openOut, restartOut, runOut};
 ghost use Rattle.link.specs.Calls.{CallPromise, RunPromise};
-ghost use Rattle.link.specs.InPlace.{linkOf, together, ranTogether};
+ghost use Rattle.link.specs.InPlace.{linkOf, putTogether, ranPutTogether};
 ghost use Rattle.link.specs.Contracts.{Emitted};
 
 // The numbers of the next link beside the answer; with a refusal, unchanged.
@@ -74,7 +74,7 @@ fn refused_in(unchanged: Core, refusal: Refusal) -> AnsweredIn
 // A body byte, which most are: it is kept, hearing alone goes on, and there is nothing to say.
 fn body_in(core: Core, p: Partial, body: &mut [u8; MAX_BODY], b: u8) -> AnsweredIn
     requires { ⌜ (core .hearing ≡ hearing.Body p) × (p .at < p .size) ⌝ }
-    ensures { λ r. ⌜ ((frame line : List ℕ) → Emitted (byteOut base (linkOf core (now (body .entry)) frame) b) line (together r (now (body .exit)) frame) line) ⌝ }
+    ensures { λ r. ⌜ ((frame line : List ℕ) → Emitted (byteOut base (linkOf core (now (body .entry)) frame) b) line (putTogether r (now (body .exit)) frame) line) ⌝ }
 {
     sized(body);
     let heard = followed(p, b);
@@ -111,7 +111,7 @@ pub fn byte_in(
     line: &mut [u8],
     up: &mut [u8],
 ) -> AnsweredIn
-    ensures { λ r. ⌜ CallPromise Passes (byteOut base (linkOf core (now (body .entry)) (now (frame .entry))) b) (linkOf core (now (body .entry)) (now (frame .entry))) (now (line .entry)) (now (up .entry)) (together r (now (body .exit)) (now (frame .entry))) (now (line .exit)) (now (up .exit)) ⌝ }
+    ensures { λ r. ⌜ CallPromise Passes (byteOut base (linkOf core (now (body .entry)) (now (frame .entry))) b) (linkOf core (now (body .entry)) (now (frame .entry))) (now (line .entry)) (now (up .entry)) (putTogether r (now (body .exit)) (now (frame .entry))) (now (line .exit)) (now (up .exit)) ⌝ }
 {
     if lacks_room(line.len(), up.len()) {
         return refused_in(core, Refusal::Room);
@@ -150,7 +150,7 @@ pub fn bytes_in(
     line: &mut [u8],
     up: &mut [u8],
 ) -> RanIn
-    ensures { λ r. ⌜ RunPromise (runOut base (linkOf core (now (body .entry)) (now (frame .entry))) (now (bytes .entry))) (linkOf core (now (body .entry)) (now (frame .entry))) (now (line .entry)) (now (up .entry)) (ranTogether r (now (body .exit)) (now (frame .entry))) (now (line .exit)) (now (up .exit)) ⌝ }
+    ensures { λ r. ⌜ RunPromise (runOut base (linkOf core (now (body .entry)) (now (frame .entry))) (now (bytes .entry))) (linkOf core (now (body .entry)) (now (frame .entry))) (now (line .entry)) (now (up .entry)) (ranPutTogether r (now (body .exit)) (now (frame .entry))) (now (line .exit)) (now (up .exit)) ⌝ }
 {
     if lacks_room(line.len(), up.len()) {
         return RanIn {
@@ -178,7 +178,7 @@ pub fn bytes_in(
 
 // One tick: a millisecond has passed. The body, whatever it is, stays.
 pub fn tick_in(core: Core, frame: &[u8; MAX_FRAME], line: &mut [u8], up: &mut [u8]) -> AnsweredIn
-    ensures { λ r. ⌜ ((body : List ℕ) → CallPromise Passes (tickOut base (linkOf core body (now (frame .entry)))) (linkOf core body (now (frame .entry))) (now (line .entry)) (now (up .entry)) (together r body (now (frame .entry))) (now (line .exit)) (now (up .exit))) ⌝ }
+    ensures { λ r. ⌜ ((body : List ℕ) → CallPromise Passes (tickOut base (linkOf core body (now (frame .entry)))) (linkOf core body (now (frame .entry))) (now (line .entry)) (now (up .entry)) (putTogether r body (now (frame .entry))) (now (line .exit)) (now (up .exit))) ⌝ }
 {
     if lacks_room(line.len(), up.len()) {
         return refused_in(core, Refusal::Room);
@@ -203,7 +203,7 @@ fn open_in(
     line: &mut [u8],
 ) -> AnsweredIn
     requires { ⌜ (LINE_ROOM ≤ length (now line)) × (kind ≤ RES) × (length (now parameters) ≤ MAX_PARAMETERS) ⌝ }
-    ensures { λ r. ⌜ ((body : List ℕ) → Emitted (openOut (linkOf core body (now (frame .entry))) asking (frameOf kind command (now (parameters .entry)))) (now (line .entry)) (together r body (now (frame .exit))) (now (line .exit))) ⌝ }
+    ensures { λ r. ⌜ ((body : List ℕ) → Emitted (openOut (linkOf core body (now (frame .entry))) asking (frameOf kind command (now (parameters .entry)))) (now (line .entry)) (putTogether r body (now (frame .exit))) (now (line .exit))) ⌝ }
 {
     sized(frame);
     let hearing = core.hearing;
@@ -223,7 +223,7 @@ pub fn send_in(
     line: &mut [u8],
     up: &mut [u8],
 ) -> AnsweredIn
-    ensures { λ r. ⌜ ((body : List ℕ) → CallPromise (sendOwn (core .job) kind (length (now (parameters .entry)))) (openOut (linkOf core body (now (frame .entry))) Plain (frameOf kind command (now (parameters .entry)))) (linkOf core body (now (frame .entry))) (now (line .entry)) (now (up .entry)) (together r body (now (frame .exit))) (now (line .exit)) (now (up .exit))) ⌝ }
+    ensures { λ r. ⌜ ((body : List ℕ) → CallPromise (sendOwn (core .job) kind (length (now (parameters .entry)))) (openOut (linkOf core body (now (frame .entry))) Plain (frameOf kind command (now (parameters .entry)))) (linkOf core body (now (frame .entry))) (now (line .entry)) (now (up .entry)) (putTogether r body (now (frame .exit))) (now (line .exit)) (now (up .exit))) ⌝ }
 {
     let job = core.job;
     let checked = send_checks(line.len(), up.len(), job, kind, parameters.len());
@@ -242,7 +242,7 @@ pub fn session_in(
     line: &mut [u8],
     up: &mut [u8],
 ) -> AnsweredIn
-    ensures { λ r. ⌜ ((body : List ℕ) → CallPromise (sessionOwn (core .job) (length (now (parameters .entry)))) (openOut (linkOf core body (now (frame .entry))) (Asks command) (frameOf REQ command (now (parameters .entry)))) (linkOf core body (now (frame .entry))) (now (line .entry)) (now (up .entry)) (together r body (now (frame .exit))) (now (line .exit)) (now (up .exit))) ⌝ }
+    ensures { λ r. ⌜ ((body : List ℕ) → CallPromise (sessionOwn (core .job) (length (now (parameters .entry)))) (openOut (linkOf core body (now (frame .entry))) (Asks command) (frameOf REQ command (now (parameters .entry)))) (linkOf core body (now (frame .entry))) (now (line .entry)) (now (up .entry)) (putTogether r body (now (frame .exit))) (now (line .exit)) (now (up .exit))) ⌝ }
 {
     let job = core.job;
     let checked = session_checks(line.len(), up.len(), job, parameters.len());
@@ -261,7 +261,7 @@ pub fn restart_in(
     line: &mut [u8],
     up: &mut [u8],
 ) -> AnsweredIn
-    ensures { λ r. ⌜ CallPromise Passes (restartOut (linkOf core (now (body .entry)) (now (frame .entry)))) (linkOf core (now (body .entry)) (now (frame .entry))) (now (line .entry)) (now (up .entry)) (together r (now (body .exit)) (now (frame .exit))) (now (line .exit)) (now (up .exit)) ⌝ }
+    ensures { λ r. ⌜ CallPromise Passes (restartOut (linkOf core (now (body .entry)) (now (frame .entry)))) (linkOf core (now (body .entry)) (now (frame .entry))) (now (line .entry)) (now (up .entry)) (putTogether r (now (body .exit)) (now (frame .exit))) (now (line .exit)) (now (up .exit)) ⌝ }
 {
     if lacks_room(line.len(), up.len()) {
         return refused_in(core, Refusal::Room);
