@@ -4,8 +4,10 @@ use crate::calls::Answer;
 use crate::calls::RunAnswer;
 use crate::emit::core_of;
 use crate::emit::emit;
+use crate::emit::line_out;
 use crate::emit::report_of;
 use crate::emit::sized;
+use crate::emit::up_out;
 use frame::MAX_BODY;
 use frame::MAX_FRAME;
 use frame::REQ;
@@ -33,8 +35,6 @@ use step::opening;
 use step::restarting;
 use step::send_checks;
 use step::session_checks;
-use writing::put_line;
-use writing::put_up;
 ghost use mathlib.Core.Path.{_≡_};
 ghost use mathlib.Core.List.{List};
 ghost use Prim.Native.Nat.{ℕ, _≤_, _<_};
@@ -131,8 +131,8 @@ pub fn byte_in(
     let event = heard.event;
     let outcome = decide(job, core.bad, core.size, event);
     keep(body, event, b);
-    let n = put_line(outcome, core.size, frame, line);
-    let k = put_up(body, outcome.up, up);
+    let n = line_out(outcome, core.size, frame, line);
+    let k = up_out(outcome.up, body, up);
     let report = report_of(outcome, n, k);
     let next = core_of(outcome, hearing, core.size);
     AnsweredIn {
@@ -166,8 +166,8 @@ pub fn bytes_in(
     let hearing = reach.hearing;
     let event = reach.event;
     let last = decide(job, core.bad, core.size, event);
-    let n = put_line(last, core.size, frame, line);
-    let k = put_up(body, last.up, up);
+    let n = line_out(last, core.size, frame, line);
+    let k = up_out(last.up, body, up);
     let report = report_of(last, n, k);
     let next = core_of(last, hearing, core.size);
     RanIn {

@@ -4,13 +4,12 @@ use mathlib.Core.Path.{refl, sym, _∙_}
 use lib.ListN.{length}
 use denote.Ref.{now}
 use Rattle.rules.specs.Rules.{base}
+use Rattle.hearing.specs.Hearing.{keep}
 use Rattle.hearing.proofs.Theorems.{keep-length}
 use Rattle.step.specs.declared.checks.Checked.the-variants.{Passes}
 use Rattle.step.proofs.Passed.{has-room}
-use Rattle.writing.proofs.Puts.{line-in, up-in}
 use Rattle.link.specs.Out.{byteOut}
 use Rattle.link.specs.InPlace.{linkOf}
-use Rattle.link.proofs.Hears.{up-counts, line-counts}
 use Rattle.link.proofs.Ways.{short, roomy, refuse-in, give, accept}
 use borrow.Author.Needs.{needs}
 use Rattle.link.proofs.in_place.byte_in.Statement.{statement}
@@ -63,11 +62,11 @@ decide-requires c κs = search needs
 keep-requires : tie.Need-keep-requires
 keep-requires c κs = search needs
 
-put-line-requires : tie.Need-put-line-requires
-put-line-requires c κs = search needs
+line-out-requires : tie.Need-line-out-requires
+line-out-requires c κs = search needs
 
-put-up-requires : tie.Need-put-up-requires
-put-up-requires c κs = search needs
+up-out-requires : tie.Need-up-out-requires
+up-out-requires c κs = search needs
 
 report-of-requires : tie.Need-report-of-requires
 report-of-requires c κs = search needs
@@ -84,9 +83,9 @@ same-length-2 c = search needs
 returns-3 : tie.Need-returns-3
 unfolding byteOut
 returns-3 c =
-    let at-put-up = c .before .before .before .before in
-    let at-put-line = at-put-up .before .before .before .before .before .before in
-    let at-keep = at-put-line .before .before .before in
+    let at-up-out = c .before .before .before .before in
+    let at-line-out = at-up-out .before .before .before .before .before in
+    let at-keep = at-line-out .before .before in
     let at-decide = at-keep .before .before in
     let at-hear-byte = at-decide .before in
     let at-frame = at-hear-byte .before .before in
@@ -104,16 +103,15 @@ returns-3 c =
     let h = at-hear-byte .hear-byte .ensures in
     let d = at-decide .decide .ensures in
     let k = at-keep .keep .ensures s in
-    let o = at-put-line .put-line .ensures in
-    let f = at-put-line .before .before .put-line-arg .given .0 in
-    let g = at-put-up .before .before .put-up-arg2 .given .0 in
-    let p = at-put-up .put-up .ensures in
-    let m = line-counts o f (w .0) frame (at-frame .sized-arg3 .given .0) in
-    let n = up-counts p g (w .1) k (keep-length (at-hear-byte .hear-byte .result .event) (a .b) body ∙ s) in
+    let o = at-line-out .line-out .ensures (w .0) in
+    let p = at-up-out .up-out .ensures (w .1) in
+    let e = at-hear-byte .hear-byte .result .event in
+    let m = o .count frame (at-frame .sized-arg3 .given .0) in
+    let n = p .count (keep e (a .b) body) (keep-length e (a .b) body ∙ s) in
     let l = linkOf (a .core) body frame in
     give Passes (byteOut base l (a .b)) l line up (roomy line up Passes r)
     (simp (c .core-of .ensures, c .before .report-of .ensures, m, n, k, d, h))
-    (line-in o f (w .0) .left ∙ simp (d, h)) (up-in p g (w .1) .left ∙ simp (k, d, h))
+    (o .left ∙ simp (d, h)) (p .left ∙ simp (k, d, h))
 
 pub byte-in-spec : {M : Type 1} → statement M
 byte-in-spec =
@@ -130,8 +128,8 @@ byte-in-spec =
     hear-byte-requires
     decide-requires
     keep-requires
-    put-line-requires
-    put-up-requires
+    line-out-requires
+    up-out-requires
     report-of-requires
     core-of-requires
     same-length

@@ -8,12 +8,11 @@ use Rattle.frame.specs.Bytes.{over}
 use Rattle.run.specs.Contracts.{Far, unheard}
 use Rattle.step.specs.declared.checks.Checked.the-variants.{Passes}
 use Rattle.step.proofs.Passed.{has-room}
-use Rattle.writing.proofs.Puts.{line-in, up-in}
 use Rattle.link.specs.Out.{Taken, outReport, runOut}
 use Rattle.link.specs.InPlace.{linkOf}
 use Rattle.link.specs.declared.calls.RunAnswer.the-variants as run
 use Rattle.link.specs.declared.calls.Ran.{Ran}
-use Rattle.link.proofs.Hears.{reached, runs, hear-length, up-counts, line-counts}
+use Rattle.link.proofs.Hears.{reached, runs, hear-length, up-count}
 use Rattle.link.proofs.Ways.{short, roomy, refuse-run, give-run}
 use borrow.Author.Needs.{needs}
 use Rattle.link.proofs.in_place.bytes_in.Statement.{statement}
@@ -45,11 +44,11 @@ hear-run-requires c κs = search needs
 decide-requires : tie.Need-decide-requires
 decide-requires c κs = search needs
 
-put-line-requires : tie.Need-put-line-requires
-put-line-requires c κs = search needs
+line-out-requires : tie.Need-line-out-requires
+line-out-requires c κs = search needs
 
-put-up-requires : tie.Need-put-up-requires
-put-up-requires c κs = search needs
+up-out-requires : tie.Need-up-out-requires
+up-out-requires c κs = search needs
 
 report-of-requires : tie.Need-report-of-requires
 report-of-requires c κs = search needs
@@ -65,9 +64,9 @@ same-length-2 c = search needs
 
 returns-2 : tie.Need-returns-2
 returns-2 c =
-    let at-put-up = c .before .before .before .before in
-    let at-put-line = at-put-up .before .before .before .before .before .before in
-    let at-decide = at-put-line .before .before .before in
+    let at-up-out = c .before .before .before .before in
+    let at-line-out = at-up-out .before .before .before .before .before in
+    let at-decide = at-line-out .before .before in
     let at-hear-run = at-decide .before in
     let at-frame = at-hear-run .before .before .before in
     let at-body = at-frame .before .before in
@@ -85,18 +84,16 @@ returns-2 c =
     let w = has-room (length line) (length up) r in
     let h = at-hear-run .hear-run .ensures s .all in
     let d = at-decide .decide .ensures in
-    let o = at-put-line .put-line .ensures in
-    let e = at-put-line .before .before .put-line-arg .given .0 in
-    let g = at-put-up .before .before .put-up-arg2 .given .0 in
-    let p = at-put-up .put-up .ensures in
-    let m = line-counts o e (w .0) frame (at-frame .sized-arg3 .given .0) in
-    let n = up-counts p g (w .1) (ap (λ (f : Far). f .body) h) (hear-length (unheard (a .core .hearing) body) bytes ∙ s) in
+    let o = at-line-out .line-out .ensures (w .0) in
+    let p = at-up-out .up-out .ensures (w .1) in
+    let m = o .count frame (at-frame .sized-arg3 .given .0) in
+    let n = up-count p (ap (λ (f : Far). f .body) h) (hear-length (unheard (a .core .hearing) body) bytes ∙ s) in
     let t = sym (runs base l bytes) in
     give-run (runOut base l bytes) l line up (roomy line up Passes r)
     (simp (c .core-of .ensures, c .before .report-of .ensures, m, n, d)
     (ap (λ (f : Far). answer-of (reached base l f)) h ∙ ap answer-of t))
-    (line-in o e (w .0) .left ∙ simp d (ap (λ (f : Far). over (reached base l f .out .line) line) h ∙ ap (λ (q : Taken). over (q .out .line) line) t))
-    (up-in p g (w .1) .left ∙ simp d (ap (λ (f : Far). over (reached base l f .out .up) up) h ∙ ap (λ (q : Taken). over (q .out .up) up) t))
+    (o .left ∙ simp d (ap (λ (f : Far). over (reached base l f .out .line) line) h ∙ ap (λ (q : Taken). over (q .out .line) line) t))
+    (p .left ∙ simp d (ap (λ (f : Far). over (reached base l f .out .up) up) h ∙ ap (λ (q : Taken). over (q .out .up) up) t))
 
 pub bytes-in-spec : {M : Type 1} → statement M
 bytes-in-spec =
@@ -108,8 +105,8 @@ bytes-in-spec =
     sized-requires-2
     hear-run-requires
     decide-requires
-    put-line-requires
-    put-up-requires
+    line-out-requires
+    up-out-requires
     report-of-requires
     core-of-requires
     same-length
