@@ -14,10 +14,7 @@ same-length-2 : tie.Need-same-length-2
 same-length-2 c = search needs
 
 returns : tie.Need-returns
-returns c =
-    let at-call = c .before .before .before .before .before in
-    let start = at-call .before .before .before .before .before .before .before .before .before .before in
-    at-call .send-in .ensures (start .args .self .body)
+returns c = c .before .before .before .before .before .send-in .ensures _
 
 pub send-spec : {M : Type 1} → statement M
 send-spec = tie.close (tie.spec send-in-requires same-length same-length-2 returns)

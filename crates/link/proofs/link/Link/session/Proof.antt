@@ -14,10 +14,7 @@ same-length-2 : tie.Need-same-length-2
 same-length-2 c = search needs
 
 returns : tie.Need-returns
-returns c =
-    let at-call = c .before .before .before .before .before in
-    let start = at-call .before .before .before .before .before .before .before .before .before .before in
-    at-call .session-in .ensures (start .args .self .body)
+returns c = c .before .before .before .before .before .session-in .ensures _
 
 pub session-spec : {M : Type 1} → statement M
 session-spec = tie.close (tie.spec session-in-requires same-length same-length-2 returns)

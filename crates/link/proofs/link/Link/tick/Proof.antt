@@ -14,10 +14,7 @@ same-length-2 : tie.Need-same-length-2
 same-length-2 c = search needs
 
 returns : tie.Need-returns
-returns c =
-    let at-call = c .before .before .before .before .before in
-    let start = at-call .before .before .before .before .before .before .before .before .before in
-    at-call .tick-in .ensures (start .args .self .body)
+returns c = c .before .before .before .before .before .tick-in .ensures _
 
 pub tick-spec : {M : Type 1} → statement M
 tick-spec = tie.close (tie.spec tick-in-requires same-length same-length-2 returns)
