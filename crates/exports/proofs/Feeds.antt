@@ -20,12 +20,11 @@ use Rattle.step.specs.declared.checks.Checked.{Checked}
 use Rattle.step.specs.declared.checks.Checked.the-variants.{Passes}
 use Rattle.link.specs.Calls.{CallPromise}
 use Rattle.link.specs.declared.link.Link.{Link}
-use Rattle.link.specs.Link.{freshLink}
 use Rattle.link.specs.declared.calls.Answered.{Answered}
 use Rattle.job.specs.declared.job.Asking.the-variants.{Asks}
 use Rattle.frame.specs.Frame.{frameOf}
 use Rattle.exports.specs.Numbers.{mix, answerNumber}
-use Rattle.exports.specs.Feeding.{Fed, at, afterCall, byteFed, tickFed, bytesFed, ticksFed, opened, asked, unsummed, heardFed, FedTo}
+use Rattle.exports.specs.Feeding.{Fed, at, afterCall, byteFed, tickFed, bytesFed, ticksFed, asked, unsummed, heardFed, FedTo}
 
 pub same-checks : (own : Checked) (line up line₀ up₀ : List ℕ) → length line ≡ length line₀ → length up ≡ length up₀
     → checks line up own ≡ checks line₀ up₀ own
@@ -91,14 +90,14 @@ ended f l line up s e =
     }
 
 -- ---- how a link is made ready
-module _ (ps line up : List ℕ) (l : Link) (fresh : l ≡ freshLink) where
+module _ (ps line up : List ℕ) (l fresh : Link) (same : l ≡ fresh) where
   pub asked-on : (asks : Bool) (line′ up′ : List ℕ) (r : Answered) → asks ≡ true
       → CallPromise (sessionOwn (l .core .job) (length ps)) (openOut l (Asks 7) (frameOf 0 7 ps)) l line up r line′ up′
-      → asked asks ps (opened line up) ≡ at (r .link) line′ up′ 0
-  asked-on asks line′ up′ r e x = simp (e, x .answer, x .line-left, x .up-left, fresh)
+      → asked asks ps (at fresh line up 0) ≡ at (r .link) line′ up′ 0
+  asked-on asks line′ up′ r e x = simp (e, x .answer, x .line-left, x .up-left, same)
 
-  pub asked-not : (asks : Bool) → asks ≡ false → asked asks ps (opened line up) ≡ at l line up 0
-  asked-not asks e = simp (e, fresh)
+  pub asked-not : (asks : Bool) → asks ≡ false → asked asks ps (at fresh line up 0) ≡ at l line up 0
+  asked-not asks e = simp (e, same)
 
 pub heard-on : (bs : List ℕ) (f : Fed) (l l′ : Link) (line up line′ up′ : List ℕ) (s : ℕ) → f ≡ at l line up 0
     → bytesFed (checks line up Passes) (at l line up 0) bs ≡ at l′ line′ up′ s → heardFed bs f ≡ at l′ line′ up′ 0

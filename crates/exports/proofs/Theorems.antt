@@ -1,5 +1,5 @@
 -- The promises of the exported functions fix their answers and every lent byte (document 01, section 12).
---     fed-to-determined   sarnaqel_by_value_runs, sarnaqel_by_value_bytes, sarnaqel_by_value_ticks (of exports_by_value)
+--     fed-to-determined   sarnaqel_runs, sarnaqel_bytes, sarnaqel_ticks, and the three of exports_by_value
 --     built-determined    sarnaqel_build
 --     read-determined     sarnaqel_read
 --     count-determined    sarnaqel_count: the nine counts that it leaves

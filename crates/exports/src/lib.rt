@@ -2,6 +2,7 @@
 mod counts;
 mod frames;
 mod numbers;
+mod runs;
 
 pub use numbers::Tale;
 pub use numbers::answer_number;

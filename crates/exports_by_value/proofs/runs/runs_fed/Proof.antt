@@ -1,7 +1,7 @@
 -- `exports_by_value::runs::runs_fed` meets its contract: the invariant is that the bytes left, from here, give what all of them give,
 -- with as many runs as there are bytes left, since each takes at least one.
 -- Assumes nothing.
-use mathlib.Core.Path.{_≡_, refl, sym, ap, _∙_}
+use mathlib.Core.Path.{_≡_, refl, _∙_}
 use Prim.Native.Nat.{ℕ, _≤_, _-_}
 use native.Mathlib.Omega.{arith}
 use borrow.Author.Needs.{needs}
@@ -9,7 +9,6 @@ use lib.ListN.{length, drop}
 use denote.Ref.{now}
 use Rattle.step.specs.Checks.{checks}
 use Rattle.step.specs.declared.checks.Checked.the-variants.{Passes}
-use Rattle.link.specs.declared.link.Link.{Link}
 use Rattle.exports.specs.Feeding.{runsFed}
 use Rattle.exports.proofs.Feeds.{ended}
 use Rattle.exports.proofs.Takes.{fed, part-given, taken-left, runs-stop, runs-on, runs-end}
@@ -74,58 +73,52 @@ returns c =
     let at-least = at-bytes .before .before .before .before in
     let at-loop-test = at-least .before in
     let at-loop = at-loop-test .before in
-    let start = at-loop .before .before .before .before in
     let l = at-loop .loop in
-    let a = start .args in
+    let a = at-loop .before .before .before .before .args in
     ended _ _ _ _ _
     (l .inv .5
     ∙ runs-stop (now (a .line)) (now (a .up)) (a .most) (now (a .input)) (l .link) (l .line) (l .up) (l .sum) (l .at) _ _ _ _ _ _ _ _
     (part-given (l .at) _ (a .most) (now (a .input)) (at-least .least .ensures)) (l .inv .1) (l .inv .2) (at-bytes .bytes .ensures) (at-tale-of .tale-of .ensures .0) (at-tale-of .tale-of .ensures .1) (c .before .before .mix .ensures) (c .before .mix2 .ensures)
     (l .inv .3) (at-loop-test .loop-test .taken) (omega arith) (c .if1 .taken))
 
-add-at : tie.Need-add-at Inv-loop μ-loop
-add-at c =
-    let at-tale-of = c .before .before .before in
+-- what the run took is left
+left : (c : tie.After-mix2 Inv-loop μ-loop)
+    → c .before .before .tale-of .result .taken ≤ length (now (c .before .before .before .before .before .before .before .before .before .before .before .before .before .before .before .before .before .before .args .input)) - c .before .before .before .before .before .before .before .before .before .before .before .before .before .before .loop .at
+left c =
+    let at-tale-of = c .before .before in
     let at-bytes = at-tale-of .before .before .before .before .before .before in
     let at-least = at-bytes .before .before .before .before in
-    let at-loop = at-least .before .before in
-    let start = at-loop .before .before .before .before in
+    let at-loop-test = at-least .before in
+    let at-loop = at-loop-test .before in
     let l = at-loop .loop in
-    let a = start .args in
-    let most = taken-left (now (a .line)) (now (a .up)) (a .most) (now (a .input)) (l .link) (l .line) (l .up) (l .sum) (l .at) _ _ _ _ _ _ _ _
-    (part-given (l .at) _ (a .most) (now (a .input)) (at-least .least .ensures)) (l .inv .1) (l .inv .2) (at-bytes .bytes .ensures) (at-tale-of .tale-of .ensures .0) (at-tale-of .tale-of .ensures .1) (c .before .before .mix .ensures) (c .before .mix2 .ensures) in
-    omega (arith, start .good .1 .0, most)
+    let a = at-loop .before .before .before .before .args in
+    taken-left (now (a .line)) (now (a .up)) (a .most) (now (a .input)) (l .link) (l .line) (l .up) (l .sum) (l .at) _ _ _ _ _ _ _ _
+    (part-given (l .at) _ (a .most) (now (a .input)) (at-least .least .ensures)) (l .inv .1) (l .inv .2) (at-bytes .bytes .ensures) (at-tale-of .tale-of .ensures .0) (at-tale-of .tale-of .ensures .1) (c .before .mix .ensures) (c .mix2 .ensures)
+
+add-at : tie.Need-add-at Inv-loop μ-loop
+add-at c = omega (arith, c .before .before .before .before .before .before .before .before .before .before .before .before .before .before .before .before .before .before .before .good .1 .0, left (c .before))
 
 loop-less : tie.Need-loop-less Inv-loop μ-loop
-loop-less c =
-    let at-tale-of = c .before .before .before in
-    let at-bytes = at-tale-of .before .before .before .before .before .before in
-    let at-least = at-bytes .before .before .before .before in
-    let at-loop = at-least .before .before in
-    let start = at-loop .before .before .before .before in
-    let l = at-loop .loop in
-    let a = start .args in
-    let most = taken-left (now (a .line)) (now (a .up)) (a .most) (now (a .input)) (l .link) (l .line) (l .up) (l .sum) (l .at) _ _ _ _ _ _ _ _
-    (part-given (l .at) _ (a .most) (now (a .input)) (at-least .least .ensures)) (l .inv .1) (l .inv .2) (at-bytes .bytes .ensures) (at-tale-of .tale-of .ensures .0) (at-tale-of .tale-of .ensures .1) (c .before .before .mix .ensures) (c .before .mix2 .ensures) in
-    omega (arith, most)
+loop-less c = omega (arith, left (c .before))
 
 loop-again : tie.Need-loop-again Inv-loop μ-loop
 loop-again c =
-    let mid = c .before .before .before .before .before .before .before in
-    let at-loop = mid .before .before .before .before .before .before .before .before in
+    let at-tale-of = c .before .before .before in
+    let at-bytes = at-tale-of .before .before .before .before .before .before in
+    let at-least = at-bytes .before .before .before .before in
+    let at-loop-test = at-least .before in
+    let at-loop = at-loop-test .before in
     let l = at-loop .loop in
-    let a = at-loop .before .before .before .before .args in
-    let most = taken-left (now (a .line)) (now (a .up)) (a .most) (now (a .input)) (l .link) (l .line) (l .up) (l .sum) (l .at) _ _ _ _ _ _ _ _
-    (part-given (l .at) _ (a .most) (now (a .input)) (mid .before .before .before .before .before .before .least .ensures)) (l .inv .1) (l .inv .2) (mid .before .before .bytes .ensures) (c .before .before .before .tale-of .ensures .0) (c .before .before .before .tale-of .ensures .1) (c .before .before .mix .ensures) (c .before .mix2 .ensures) in (
-      omega (arith, most),
-      omega arith,
-      omega arith,
+    let a = at-loop .before .before .before .before .args in (
+      omega (arith, left (c .before)),
+      omega (arith, at-bytes .bytes .kept .1 .1 .0),
+      omega (arith, at-bytes .bytes .kept .1 .1 .1 .0),
       l .inv .3 - 1,
-      omega (arith, most),
+      omega (arith, left (c .before)),
       l .inv .5
           ∙ runs-on (now (a .line)) (now (a .up)) (a .most) (now (a .input)) (l .link) (l .line) (l .up) (l .sum) (l .at) _ _ _ _ _ _ _ _
-          (part-given (l .at) _ (a .most) (now (a .input)) (mid .before .before .before .before .before .before .least .ensures)) (l .inv .1) (l .inv .2) (mid .before .before .bytes .ensures) (c .before .before .before .tale-of .ensures .0) (c .before .before .before .tale-of .ensures .1) (c .before .before .mix .ensures) (c .before .mix2 .ensures)
-          (l .inv .3) (mid .before .before .before .before .before .before .before .loop-test .taken) (omega arith) (c .if1 .left),
+          (part-given (l .at) _ (a .most) (now (a .input)) (at-least .least .ensures)) (l .inv .1) (l .inv .2) (at-bytes .bytes .ensures) (at-tale-of .tale-of .ensures .0) (at-tale-of .tale-of .ensures .1) (c .before .before .mix .ensures) (c .before .mix2 .ensures)
+          (l .inv .3) (at-loop-test .loop-test .taken) (omega arith) (c .if1 .left),
     )
 
 same-length-3 : tie.Need-same-length-3 Inv-loop μ-loop
