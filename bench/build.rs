@@ -6,8 +6,15 @@ fn main() {
         panic!("start the bench by bench/run, which compiles what is linked here");
     };
     println!("cargo:rustc-link-search=native={libraries}");
-    println!("cargo:rustc-link-lib=static=exports");
-    println!("cargo:rustc-link-lib=static=count");
-    println!("cargo:rerun-if-changed={libraries}/libexports.a");
-    println!("cargo:rerun-if-changed={libraries}/libcount.a");
+    let mut linked = vec!["exports", "exports_by_value", "count"];
+    if std::env::var("CARGO_FEATURE_BEFORE").is_ok() {
+        linked.push("exports_by_value_before");
+    }
+    if std::env::var("CARGO_FEATURE_BEFORE_IN_PLACE").is_ok() {
+        linked.push("exports_before");
+    }
+    for name in linked {
+        println!("cargo:rustc-link-lib=static={name}");
+        println!("cargo:rerun-if-changed={libraries}/lib{name}.a");
+    }
 }

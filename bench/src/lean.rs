@@ -3,7 +3,8 @@
 //! session are the second program's, since only single bytes and ends reach them.
 
 use crate::numbers::{mix, refused, report};
-use reference::frame::{ACK, CAN, LEAST_LENGTH, MOST_BODY, NAK, RES, START};
+use crate::ways::Ready;
+use reference::frame::{ACK, CAN, LEAST_LENGTH, MOST_BODY, NAK, REQ, RES, START};
 use reference::link;
 use reference::reception::Single;
 use reference::refusal::Refusal;
@@ -43,6 +44,22 @@ impl Link {
         }
     }
 
+    /// Every heard byte is a run of its own.
+    #[inline(never)]
+    pub fn prepared(ready: Ready, line: &mut [u8], up: &mut [u8]) -> Link {
+        let mut link = Link::open();
+        if ready.asks && link.sender.accept(REQ, 7, ready.parameters).is_ok() {
+            link.session = Session::Sending { command: 7 };
+            link.sender.release(line);
+        }
+        for byte in ready.heard.chunks(1) {
+            let _ = link.bytes(byte, line, up);
+        }
+        link
+    }
+
+    /// Inlined into the loop that is measured, as the proved code's run is.
+    #[inline(always)]
     pub fn bytes(
         &mut self,
         run: &[u8],
@@ -165,8 +182,8 @@ impl Link {
 }
 
 #[inline(never)]
-pub fn runs(input: &[u8], most: usize, line: &mut [u8], up: &mut [u8]) -> u64 {
-    let mut link = Link::open();
+pub fn runs(ready: Ready, input: &[u8], most: usize, line: &mut [u8], up: &mut [u8]) -> u64 {
+    let mut link = Link::prepared(ready, line, up);
     let mut sum = 0;
     let mut at = 0;
     while at < input.len() {

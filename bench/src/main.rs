@@ -7,12 +7,14 @@ mod numbers;
 mod proved;
 mod second;
 mod table;
+mod ways;
 
 use reference::dice::Dice;
 use reference::frame;
 use reference::stream::stream;
 use std::hint::black_box;
 use table::{Row, Target, Timed};
+use ways::{Ready, BACKS_OFF, QUIET};
 
 const INPUT: usize = 16 * 1024 * 1024;
 const ROUNDS: usize = 9;
@@ -79,82 +81,36 @@ fn with_lent(run: impl FnOnce(&mut [u8], &mut [u8]) -> u64) -> Answer {
     Answer(number, left)
 }
 
-fn race_runs(what: &str, input: &[u8], most: usize) -> Result<Vec<Timed>, String> {
-    race(
-        what,
-        input.len() as f64,
-        &mut [
-            (
-                "proved",
-                Box::new(|| with_lent(|line, up| proved::runs(input, most, line, up))),
-            ),
-            (
-                "second",
-                Box::new(|| with_lent(|line, up| second::runs(input, most, line, up))),
-            ),
-            (
-                "lean",
-                Box::new(|| with_lent(|line, up| lean::runs(input, most, line, up))),
-            ),
-        ],
-    )
+fn race_runs(what: &str, ready: Ready, input: &[u8], most: usize) -> Result<Vec<Timed>, String> {
+    let mut contestants: Vec<Contestant> = Vec::new();
+    for &(name, runs) in ways::RUNS {
+        let run = move || with_lent(|line, up| runs(ready, input, most, line, up));
+        contestants.push((name, Box::new(run)));
+    }
+    race(what, input.len() as f64, &mut contestants)
 }
 
-fn race_bytes(what: &str, input: &[u8]) -> Result<Vec<Timed>, String> {
-    race(
-        what,
-        input.len() as f64,
-        &mut [
-            (
-                "proved",
-                Box::new(|| with_lent(|line, up| proved::bytes(input, line, up))),
-            ),
-            (
-                "second",
-                Box::new(|| with_lent(|line, up| second::bytes(input, line, up))),
-            ),
-        ],
-    )
+fn race_bytes(what: &str, ready: Ready, input: &[u8]) -> Result<Vec<Timed>, String> {
+    let mut contestants: Vec<Contestant> = Vec::new();
+    for &(name, bytes) in ways::BYTES {
+        let run = move || with_lent(|line, up| bytes(ready, input, line, up));
+        contestants.push((name, Box::new(run)));
+    }
+    race(what, input.len() as f64, &mut contestants)
 }
 
 /// Per tick; with no ticks, per link made ready for them.
-fn race_ticks(
-    what: &str,
-    asks: bool,
-    parameters: &[u8],
-    heard: &[u8],
-    n: u64,
-    times: u64,
-) -> Result<Vec<Timed>, String> {
-    fn repeat(times: u64, mut run: impl FnMut() -> u64) -> u64 {
-        (0..times).fold(0, |sum, _| numbers::mix(sum, run()))
+fn race_ticks(what: &str, ready: Ready, n: u64, times: u64) -> Result<Vec<Timed>, String> {
+    let mut contestants: Vec<Contestant> = Vec::new();
+    for &(name, ticks) in ways::TICKS {
+        let run = move || {
+            with_lent(|line, up| {
+                (0..times).fold(0, |sum, _| numbers::mix(sum, ticks(ready, n, line, up)))
+            })
+        };
+        contestants.push((name, Box::new(run)));
     }
-    race(
-        what,
-        (n.max(1) * times) as f64,
-        &mut [
-            (
-                "proved",
-                Box::new(|| {
-                    with_lent(|line, up| {
-                        repeat(times, || {
-                            proved::ticks(asks, parameters, heard, n, line, up)
-                        })
-                    })
-                }),
-            ),
-            (
-                "second",
-                Box::new(|| {
-                    with_lent(|line, up| {
-                        repeat(times, || {
-                            second::ticks(asks, parameters, heard, n, line, up)
-                        })
-                    })
-                }),
-            ),
-        ],
-    )
+    race(what, (n.max(1) * times) as f64, &mut contestants)
 }
 
 fn race_build(what: &str, parameters: &[u8]) -> Result<Vec<Timed>, String> {
@@ -237,95 +193,94 @@ fn frames_of(size: usize, total: usize) -> Vec<u8> {
     bytes
 }
 
-fn measure() -> Result<(), String> {
-    let mix_a = stream(SEED, "mixA", INPUT).ok_or("there is no mixA")?;
-    let mix_b = stream(SEED, "mixB", INPUT).ok_or("there is no mixB")?;
-    let whole = usize::MAX;
-    println!(
-        "- Input: {} MiB of each mix, from one seed. Mix A has frames of 5 to 257 bytes with noise of 0 to 16 bytes between, mix B frames of 5 to 14 with noise of 0 to 4; in both, 1 frame in 16 has a bad sum, 1 in 16 is an 01 and a bad Length alone, and 1 in 16 has a reserved type. Byte calls get the first MiB, the tables of sizes the first 4.",
-        INPUT / 1024 / 1024
-    );
-    println!("- Each figure is the median of {ROUNDS} rounds, behind one that is not counted; within a round all run in turn, in an order that turns with the rounds. Times are of the thread, so what other programs take is left out. The lent buffers are cleared at the start of each timed run, and all answers and lent bytes are compared.");
+/// The two mixes, by their names.
+type Mixes<'a> = [(&'a str, &'a [u8]); 2];
 
+const JOBS: [(&str, Ready); 2] = [("no job", QUIET), ("a job open", BACKS_OFF)];
+const WHOLE: usize = usize::MAX;
+const PART: usize = 1024 * 1024;
+
+/// Whole inputs: runs, and counting.
+fn inputs(mixes: Mixes) -> Result<Vec<Row>, String> {
     let mut rows = Vec::new();
-    for (name, input) in [("mix A", &mix_a), ("mix B", &mix_b)] {
-        let what = format!("run of bytes, {name}");
-        let times = race_runs(&what, input, whole)?;
-        rows.push(Row::new(
-            &what,
-            "ns a byte",
-            times,
-            &[Target::Ratio("second", 0.6), Target::Ratio("lean", 1.3)],
-        ));
+    let targets = [Target::Ratio("second", 0.6), Target::Ratio("lean", 1.1)];
+    for (job, ready) in JOBS {
+        for (name, input) in mixes {
+            let what = format!("run of bytes, {name}, {job}");
+            let times = race_runs(&what, ready, input, WHOLE)?;
+            rows.push(Row::new(&what, "ns a byte", times, &targets));
+        }
     }
-    for (name, input) in [("mix A", &mix_a), ("mix B", &mix_b)] {
+    let targets = [Target::Ratio("second", 1.0), Target::Ratio("C", 1.25)];
+    for (name, input) in mixes {
         let what = format!("linecount, {name}");
         let times = race_count(&what, input)?;
-        rows.push(Row::new(
-            &what,
-            "ns a byte",
-            times,
-            &[Target::Ratio("second", 1.0), Target::Ratio("C", 1.25)],
-        ));
+        rows.push(Row::new(&what, "ns a byte", times, &targets));
     }
+    Ok(rows)
+}
+
+/// Single frames, built and read.
+fn frames() -> Result<Vec<Row>, String> {
+    let mut rows = Vec::new();
+    let targets = [Target::Ratio("second", 1.1)];
     let mut dice = Dice::new(SEED);
     for size in [5, 64, 257] {
         let frame = frame_of(&mut dice, size);
         let what = format!("build, {size} bytes");
         let times = race_build(&what, &frame[4..size - 1])?;
-        rows.push(Row::new(
-            &what,
-            "ns a call",
-            times,
-            &[Target::Ratio("second", 1.1)],
-        ));
+        rows.push(Row::new(&what, "ns a call", times, &targets));
         let what = format!("read, {size} bytes");
         let times = race_read(&what, &frame)?;
-        rows.push(Row::new(
-            &what,
-            "ns a call",
-            times,
-            &[Target::Ratio("second", 1.1)],
-        ));
+        rows.push(Row::new(&what, "ns a call", times, &targets));
     }
-    let part = 1024 * 1024;
-    for (name, input) in [("mix A", &mix_a), ("mix B", &mix_b)] {
-        let what = format!("one byte call, {name}");
-        let times = race_bytes(&what, &input[..part])?;
-        rows.push(Row::new(&what, "ns a call", times, &[Target::Most(60.0)]));
-    }
-    let times = race_ticks("one tick, quiet", false, &[], &[], 1_000_000, 1)?;
-    rows.push(Row::new(
-        "one tick, quiet",
-        "ns a call",
-        times,
-        &[Target::Most(10.0)],
-    ));
-    table::print("Against the targets", &rows);
+    Ok(rows)
+}
 
+/// Single calls of a link: a byte, a tick.
+fn calls(mixes: Mixes) -> Result<Vec<Row>, String> {
+    let mut rows = Vec::new();
+    let targets = [Target::Ratio("second", 1.5)];
+    for (job, ready) in JOBS {
+        for (name, input) in mixes {
+            let what = format!("one byte call, {name}, {job}");
+            let times = race_bytes(&what, ready, &input[..PART])?;
+            rows.push(Row::new(&what, "ns a call", times, &targets));
+        }
+    }
+    let targets = [Target::Most(10.0), Target::Ratio("by value", 1.0)];
+    let ticked = [
+        ("one tick, quiet", QUIET),
+        ("one tick, a session from its back-off on", BACKS_OFF),
+    ];
+    for (what, ready) in ticked {
+        let times = race_ticks(what, ready, 1_000_000, 1)?;
+        rows.push(Row::new(what, "ns a call", times, &targets));
+    }
+    Ok(rows)
+}
+
+fn by_length(mix_a: &[u8]) -> Result<Vec<Row>, String> {
     let mut rows = Vec::new();
     for most in [16, 64, 256, 1024, 16_384, INPUT] {
         let what = format!("runs of at most {most} bytes, mix A");
-        let times = race_runs(&what, &mix_a[..4 * part], most)?;
+        let times = race_runs(&what, QUIET, &mix_a[..4 * PART], most)?;
         rows.push(Row::new(&what, "ns a byte", times, &[]));
     }
     for size in [5, 16, 64, 128, 257] {
-        let input = frames_of(size, 4 * part);
+        let input = frames_of(size, 4 * PART);
         let what = format!("one run, frames of {size} bytes");
-        let times = race_runs(&what, &input, whole)?;
+        let times = race_runs(&what, QUIET, &input, WHOLE)?;
         rows.push(Row::new(&what, "ns a byte", times, &[]));
     }
-    table::print(
-        "Cost a byte, by the length of the run and of the frame",
-        &rows,
-    );
+    Ok(rows)
+}
 
+fn by_state() -> Result<Vec<Row>, String> {
     let mut rows = Vec::new();
     let long = Dice::new(SEED).bytes(252);
     let mut open = vec![0x01, 0xFF];
     open.extend_from_slice(&long);
-    let mut awaits = vec![0x06];
-    awaits.extend_from_slice(&open);
     let ticks = 1400;
     #[rustfmt::skip]
     let states: &[(&str, bool, &[u8], &[u8])] = &[
@@ -338,20 +293,52 @@ fn measure() -> Result<(), String> {
         ("awaiting the response", true, &long, &[0x06]),
         ("waiting for the back-off of 100, and copies", true, &long, &[0x15]),
     ];
-    for (state, asks, parameters, heard) in states {
+    for &(state, asks, parameters, heard) in states {
         let what = format!("tick, {state}");
-        let whole = race_ticks(&what, *asks, parameters, heard, ticks, 500)?;
-        let ready = race_ticks(&what, *asks, parameters, heard, 0, 500)?;
+        let ready = Ready {
+            asks,
+            parameters,
+            heard,
+        };
+        let whole = race_ticks(&what, ready, ticks, 500)?;
+        let none = race_ticks(&what, ready, 0, 500)?;
         let times = whole
             .into_iter()
-            .zip(ready)
-            .map(|(whole, ready)| whole.less(ready.median / ticks as f64))
+            .zip(none)
+            .map(|(whole, none)| whole.less(none.median / ticks as f64))
             .collect();
         rows.push(Row::new(&what, "ns a call", times, &[]));
     }
+    Ok(rows)
+}
+
+/// What the tables are of, as a list.
+fn explain() {
+    println!("- Columns: `proved` is the proved code, its link's calls in place (crate `exports`); `by value` the same calls with the link by value (crate `exports_by_value`); `second` the second program; `lean` the lean Rust; `C` the C loop.");
+    println!(
+        "- Input: {} MiB of each mix, from one seed. Mix A has frames of 5 to 257 bytes with noise of 0 to 16 bytes between, mix B frames of 5 to 14 with noise of 0 to 4; in both, 1 frame in 16 has a bad sum, 1 in 16 is an 01 and a bad Length alone, and 1 in 16 has a reserved type. Byte calls get the first MiB, the tables of sizes the first 4.",
+        INPUT / 1024 / 1024
+    );
+    println!("- Each link is made ready by calls before the measured ones, and no compiler knows its state. `No job` is a fresh link. `A job open` is a session with the parameters 01 02 03 whose first copy was answered by 15: it backs off, and since no tick comes it does so for the whole input, so the job is open from the first byte to the last. The ticks from the back-off on go through its wait, the other copies and their waits, until the session fails, and then on; they are 1,000,000, as the quiet ones.");
+    println!("- Each figure is the median of {ROUNDS} rounds, behind one that is not counted; within a round all run in turn, in an order that turns with the rounds. Times are of the thread, so what other programs take is left out. The lent buffers are cleared at the start of each timed run, and all answers and lent bytes are compared.");
+}
+
+fn measure() -> Result<(), String> {
+    let mix_a = stream(SEED, "mixA", INPUT).ok_or("there is no mixA")?;
+    let mix_b = stream(SEED, "mixB", INPUT).ok_or("there is no mixB")?;
+    explain();
+    let mixes: Mixes = [("mix A", &mix_a), ("mix B", &mix_b)];
+    let mut rows = inputs(mixes)?;
+    rows.extend(frames()?);
+    rows.extend(calls(mixes)?);
+    table::print("Against the targets", &rows);
+    table::print(
+        "Cost a byte, by the length of the run and of the frame",
+        &by_length(&mix_a)?,
+    );
     table::print(
         "Cost a tick, by what the link is doing (making it ready is measured alone and taken off)",
-        &rows,
+        &by_state()?,
     );
     Ok(())
 }

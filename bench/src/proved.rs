@@ -1,13 +1,11 @@
-//! The proved code, by the C names that `crates/exports` gives it. A slice is a pointer and a length.
+//! The proved code, by the C names that `crates/exports` and `crates/exports_by_value` give it. A slice is a pointer
+//! and a length.
 
 #[rustfmt::skip]
 extern "C" {
     fn sarnaqel_build(kind: u8, command: u8, parameters: *const u8, parameters_size: usize, lent: *mut u8, lent_size: usize) -> u64;
     fn sarnaqel_count(input: *const u8, size: usize, counts: *mut [u64; 9]);
     fn sarnaqel_read(bytes: *const u8, size: usize) -> u64;
-    fn sarnaqel_runs(input: *const u8, size: usize, most: usize, line: *mut u8, line_size: usize, up: *mut u8, up_size: usize) -> u64;
-    fn sarnaqel_bytes(input: *const u8, size: usize, line: *mut u8, line_size: usize, up: *mut u8, up_size: usize) -> u64;
-    fn sarnaqel_ticks(asks: bool, parameters: *const u8, parameters_size: usize, heard: *const u8, heard_size: usize, n: u64, line: *mut u8, line_size: usize, up: *mut u8, up_size: usize) -> u64;
 }
 
 pub fn build(kind: u8, command: u8, parameters: &[u8], lent: &mut [u8]) -> u64 {
@@ -27,59 +25,52 @@ pub fn read(bytes: &[u8]) -> u64 {
     unsafe { sarnaqel_read(bytes.as_ptr(), bytes.len()) }
 }
 
-pub fn runs(input: &[u8], most: usize, line: &mut [u8], up: &mut [u8]) -> u64 {
-    unsafe {
-        sarnaqel_runs(
-            input.as_ptr(),
-            input.len(),
-            most,
-            line.as_mut_ptr(),
-            line.len(),
-            up.as_mut_ptr(),
-            up.len(),
-        )
-    }
-}
-
-pub fn bytes(input: &[u8], line: &mut [u8], up: &mut [u8]) -> u64 {
-    unsafe {
-        sarnaqel_bytes(
-            input.as_ptr(),
-            input.len(),
-            line.as_mut_ptr(),
-            line.len(),
-            up.as_mut_ptr(),
-            up.len(),
-        )
-    }
-}
-
-pub fn ticks(
-    asks: bool,
-    parameters: &[u8],
-    heard: &[u8],
-    n: u64,
-    line: &mut [u8],
-    up: &mut [u8],
-) -> u64 {
-    unsafe {
-        sarnaqel_ticks(
-            asks,
-            parameters.as_ptr(),
-            parameters.len(),
-            heard.as_ptr(),
-            heard.len(),
-            n,
-            line.as_mut_ptr(),
-            line.len(),
-            up.as_mut_ptr(),
-            up.len(),
-        )
-    }
-}
-
 pub fn count(input: &[u8]) -> [u64; 9] {
     let mut counts = [0; 9];
     unsafe { sarnaqel_count(input.as_ptr(), input.len(), &mut counts) };
     counts
 }
+
+/// The calls of a link in one of its ways: they differ only in their names.
+macro_rules! calls_of_a_link {
+    ($way:ident: $runs:ident, $bytes:ident, $ticks:ident) => {
+        #[rustfmt::skip]
+        pub mod $way {
+            use crate::ways::Ready;
+
+            extern "C" {
+                fn $runs(asks: bool, parameters: *const u8, parameters_size: usize, heard: *const u8, heard_size: usize, input: *const u8, input_size: usize, most: usize, line: *mut u8, line_size: usize, up: *mut u8, up_size: usize) -> u64;
+                fn $bytes(asks: bool, parameters: *const u8, parameters_size: usize, heard: *const u8, heard_size: usize, input: *const u8, input_size: usize, line: *mut u8, line_size: usize, up: *mut u8, up_size: usize) -> u64;
+                fn $ticks(asks: bool, parameters: *const u8, parameters_size: usize, heard: *const u8, heard_size: usize, n: u64, line: *mut u8, line_size: usize, up: *mut u8, up_size: usize) -> u64;
+            }
+
+            pub fn runs(ready: Ready, input: &[u8], most: usize, line: &mut [u8], up: &mut [u8]) -> u64 {
+                let Ready { asks, parameters, heard } = ready;
+                unsafe {
+                    $runs(asks, parameters.as_ptr(), parameters.len(), heard.as_ptr(), heard.len(), input.as_ptr(), input.len(), most, line.as_mut_ptr(), line.len(), up.as_mut_ptr(), up.len())
+                }
+            }
+
+            pub fn bytes(ready: Ready, input: &[u8], line: &mut [u8], up: &mut [u8]) -> u64 {
+                let Ready { asks, parameters, heard } = ready;
+                unsafe {
+                    $bytes(asks, parameters.as_ptr(), parameters.len(), heard.as_ptr(), heard.len(), input.as_ptr(), input.len(), line.as_mut_ptr(), line.len(), up.as_mut_ptr(), up.len())
+                }
+            }
+
+            pub fn ticks(ready: Ready, n: u64, line: &mut [u8], up: &mut [u8]) -> u64 {
+                let Ready { asks, parameters, heard } = ready;
+                unsafe {
+                    $ticks(asks, parameters.as_ptr(), parameters.len(), heard.as_ptr(), heard.len(), n, line.as_mut_ptr(), line.len(), up.as_mut_ptr(), up.len())
+                }
+            }
+        }
+    };
+}
+
+calls_of_a_link!(in_place: sarnaqel_runs, sarnaqel_bytes, sarnaqel_ticks);
+calls_of_a_link!(by_value: sarnaqel_by_value_runs, sarnaqel_by_value_bytes, sarnaqel_by_value_ticks);
+#[cfg(feature = "before-in-place")]
+calls_of_a_link!(in_place_before: before_sarnaqel_runs, before_sarnaqel_bytes, before_sarnaqel_ticks);
+#[cfg(feature = "before")]
+calls_of_a_link!(by_value_before: before_sarnaqel_by_value_runs, before_sarnaqel_by_value_bytes, before_sarnaqel_by_value_ticks);

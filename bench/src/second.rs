@@ -1,6 +1,7 @@
 //! The second program as it is, driven as `crates/exports` drives the proved code.
 
 use crate::numbers::{mix, refused, report};
+use crate::ways::Ready;
 use reference::frame;
 use reference::linecount;
 use reference::link::Link;
@@ -25,9 +26,32 @@ pub fn read(bytes: &[u8]) -> u64 {
     }
 }
 
+/// Every byte in a call of its own.
+fn fed(link: &mut Link, input: &[u8], line: &mut [u8], up: &mut [u8]) -> u64 {
+    let mut sum = 0;
+    for &byte in input {
+        let number = match link.byte(byte, line, up) {
+            Ok(said) => report(&said),
+            Err(refusal) => refused(refusal),
+        };
+        sum = mix(sum, number);
+    }
+    sum
+}
+
 #[inline(never)]
-pub fn runs(input: &[u8], most: usize, line: &mut [u8], up: &mut [u8]) -> u64 {
+fn prepared(ready: Ready, line: &mut [u8], up: &mut [u8]) -> Link {
     let mut link = Link::open();
+    if ready.asks {
+        let _ = link.session(7, ready.parameters, line, up);
+    }
+    let _ = fed(&mut link, ready.heard, line, up);
+    link
+}
+
+#[inline(never)]
+pub fn runs(ready: Ready, input: &[u8], most: usize, line: &mut [u8], up: &mut [u8]) -> u64 {
+    let mut link = prepared(ready, line, up);
     let mut sum = 0;
     let mut at = 0;
     while at < input.len() {
@@ -43,38 +67,14 @@ pub fn runs(input: &[u8], most: usize, line: &mut [u8], up: &mut [u8]) -> u64 {
     sum
 }
 
-/// Every byte in a call of its own.
-fn fed(link: &mut Link, input: &[u8], line: &mut [u8], up: &mut [u8]) -> u64 {
-    let mut sum = 0;
-    for &byte in input {
-        let number = match link.byte(byte, line, up) {
-            Ok(said) => report(&said),
-            Err(refusal) => refused(refusal),
-        };
-        sum = mix(sum, number);
-    }
-    sum
+#[inline(never)]
+pub fn bytes(ready: Ready, input: &[u8], line: &mut [u8], up: &mut [u8]) -> u64 {
+    fed(&mut prepared(ready, line, up), input, line, up)
 }
 
 #[inline(never)]
-pub fn bytes(input: &[u8], line: &mut [u8], up: &mut [u8]) -> u64 {
-    fed(&mut Link::open(), input, line, up)
-}
-
-#[inline(never)]
-pub fn ticks(
-    asks: bool,
-    parameters: &[u8],
-    heard: &[u8],
-    n: u64,
-    line: &mut [u8],
-    up: &mut [u8],
-) -> u64 {
-    let mut link = Link::open();
-    if asks {
-        let _ = link.session(7, parameters, line, up);
-    }
-    let _ = fed(&mut link, heard, line, up);
+pub fn ticks(ready: Ready, n: u64, line: &mut [u8], up: &mut [u8]) -> u64 {
+    let mut link = prepared(ready, line, up);
     let mut sum = 0;
     for _ in 0..n {
         let number = match link.tick(line, up) {

@@ -63,6 +63,13 @@ impl Row {
         }
     }
 
+    fn cell(&self, column: &str) -> String {
+        match column.strip_prefix("proved / ") {
+            Some(other) => self.ratio(other),
+            None => self.time(column),
+        }
+    }
+
     fn verdict(&self) -> String {
         let said: Vec<String> = self
             .targets
@@ -84,51 +91,40 @@ impl Row {
     }
 }
 
-const OTHERS: [&str; 3] = ["second", "lean", "C"];
+/// A contestant's times, or how they compare with the proved code's.
+#[rustfmt::skip]
+const COLUMNS: [&str; 10] = [
+    "proved", "before", "by value", "by value before",
+    "second", "proved / second", "lean", "proved / lean", "C", "proved / C",
+];
+
+fn line(cells: &[String]) {
+    println!("| {} |", cells.join(" | "));
+}
 
 /// Prints the rows; columns that no row fills are left out.
 pub fn print(title: &str, rows: &[Row]) {
-    let others: Vec<&str> = OTHERS
+    let columns: Vec<&str> = COLUMNS
         .into_iter()
-        .filter(|name| rows.iter().any(|row| row.median(name).is_some()))
+        .filter(|column| rows.iter().any(|row| !row.cell(column).is_empty()))
         .collect();
     let targets = rows.iter().any(|row| !row.targets.is_empty());
-    let mut cells = vec![
-        "measured".to_string(),
-        "unit".to_string(),
-        "proved".to_string(),
-    ];
-    for name in &others {
-        cells.push(name.to_string());
-        cells.push(format!("proved / {name}"));
-    }
-    if targets {
-        cells.push("targets".to_string());
-    }
     println!("\n### {title}\n");
-    println!("| {} |", cells.join(" | "));
-    let rule: Vec<&str> = cells
-        .iter()
-        .enumerate()
-        .map(|(place, cell)| {
-            let number = place > 1 && cell != "targets";
-            if number {
-                "--:"
-            } else {
-                "---"
-            }
-        })
-        .collect();
-    println!("|{}|", rule.join("|"));
+    let mut head = vec!["measured".to_string(), "unit".to_string()];
+    head.extend(columns.iter().map(|column| column.to_string()));
+    let mut rule = "|---|---|".to_string() + &"--:|".repeat(columns.len());
+    if targets {
+        head.push("targets".to_string());
+        rule.push_str("---|");
+    }
+    line(&head);
+    println!("{rule}");
     for row in rows {
-        let mut cells = vec![row.what.clone(), row.unit.clone(), row.time("proved")];
-        for name in &others {
-            cells.push(row.time(name));
-            cells.push(row.ratio(name));
-        }
+        let mut cells = vec![row.what.clone(), row.unit.clone()];
+        cells.extend(columns.iter().map(|column| row.cell(column)));
         if targets {
             cells.push(row.verdict());
         }
-        println!("| {} |", cells.join(" | "));
+        line(&cells);
     }
 }
