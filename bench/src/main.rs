@@ -248,7 +248,7 @@ fn calls(mixes: Mixes) -> Result<Vec<Row>, String> {
             rows.push(Row::new(&what, "ns a call", times, &targets));
         }
     }
-    let targets = [Target::Most(10.0), Target::Ratio("by value", 1.0)];
+    let targets = [Target::Most(10.0)];
     let ticked = [
         ("one tick, quiet", QUIET),
         ("one tick, a session from its back-off on", BACKS_OFF),
@@ -314,7 +314,7 @@ fn by_state() -> Result<Vec<Row>, String> {
 
 /// What the tables are of, as a list.
 fn explain() {
-    println!("- Columns: `proved` is the proved code, its link's calls in place (crate `exports`); `by value` the same calls with the link by value (crate `exports_by_value`); `second` the second program; `lean` the lean Rust; `C` the C loop.");
+    println!("- Columns: `proved` is the proved code, its link's calls in place (crate `exports_in_place`); `by value` the same calls with the link by value (crate `exports_by_value`); `second` the second program; `lean` the lean Rust; `C` the C loop.");
     println!(
         "- Input: {} MiB of each mix, from one seed. Mix A has frames of 5 to 257 bytes with noise of 0 to 16 bytes between, mix B frames of 5 to 14 with noise of 0 to 4; in both, 1 frame in 16 has a bad sum, 1 in 16 is an 01 and a bad Length alone, and 1 in 16 has a reserved type. Byte calls get the first MiB, the tables of sizes the first 4.",
         INPUT / 1024 / 1024

@@ -1,5 +1,5 @@
-//! The proved code, by the C names that `crates/exports` and `crates/exports_by_value` give it. A slice is a pointer
-//! and a length.
+//! The proved code, by the C names that `crates/exports`, `crates/exports_in_place` and `crates/exports_by_value` give
+//! it. A slice is a pointer and a length.
 
 #[rustfmt::skip]
 extern "C" {

@@ -1,9 +1,9 @@
 -- The promises of the exported functions fix their answers and every lent byte (document 01, section 12).
---     fed-to-determined   sarnaqel_runs, sarnaqel_bytes, sarnaqel_ticks, and the three of exports_by_value
+--     fed-to-determined   the three functions of exports_in_place, and the three of exports_by_value
 --     built-determined    sarnaqel_build
 --     read-determined     sarnaqel_read
 --     count-determined    sarnaqel_count: the nine counts that it leaves
---     mix-determined, answer-number-determined, tale-determined   mix, answer_number, tale_of, for exports_by_value
+--     mix-determined, answer-number-determined, tale-determined   mix, answer_number, tale_of, for both
 -- Assumes nothing.
 use mathlib.Core.Path.{_≡_, ap, _∙_}
 use mathlib.Core.List.{List}

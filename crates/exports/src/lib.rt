@@ -2,7 +2,6 @@
 mod counts;
 mod frames;
 mod numbers;
-mod runs;
 
 pub use numbers::Tale;
 pub use numbers::answer_number;

@@ -1,14 +1,14 @@
--- `exports::runs::sarnaqel_ticks` meets its contract: the ticks start from what the heard bytes leave.
+-- `exports_in_place::runs::sarnaqel_ticks` meets its contract: the ticks start from what the heard bytes leave.
 -- Assumes nothing.
 use native.Mathlib.Omega.{arith}
 use denote.Ref.{now}
 use Rattle.step.specs.declared.checks.Checked.{Checked}
 use Rattle.link.specs.Link.{noBody, noFrame}
 use Rattle.exports.specs.Feeding.{Fed, opened, asked, ticksFed}
 use Rattle.exports.proofs.Feeds.{heard-on, ready-on}
 use borrow.Author.Needs.{needs}
-use Rattle.exports.proofs.runs.sarnaqel_ticks.Statement.{statement}
-use Rattle.exports.proofs.runs.sarnaqel_ticks.Tie as tie
+use Rattle.exports_in_place.proofs.runs.sarnaqel_ticks.Statement.{statement}
+use Rattle.exports_in_place.proofs.runs.sarnaqel_ticks.Tie as tie
 
 asked-requires : tie.Need-asked-requires
 asked-requires c κs = search needs

@@ -1,15 +1,15 @@
--- `exports::runs::sarnaqel_runs` meets its contract: the runs start from what the heard bytes leave.
+-- `exports_in_place::runs::sarnaqel_runs` meets its contract: the runs start from what the heard bytes leave.
 -- Assumes nothing.
 use native.Mathlib.Omega.{arith}
 use lib.ListN.{length}
 use denote.Ref.{now}
 use Rattle.step.specs.declared.checks.Checked.{Checked}
 use Rattle.link.specs.Link.{noBody, noFrame}
 use Rattle.exports.specs.Feeding.{Fed, opened, asked, runsFed}
 use Rattle.exports.proofs.Feeds.{heard-on, ready-on}
 use borrow.Author.Needs.{needs}
-use Rattle.exports.proofs.runs.sarnaqel_runs.Statement.{statement}
-use Rattle.exports.proofs.runs.sarnaqel_runs.Tie as tie
+use Rattle.exports_in_place.proofs.runs.sarnaqel_runs.Statement.{statement}
+use Rattle.exports_in_place.proofs.runs.sarnaqel_runs.Tie as tie
 
 asked-requires : tie.Need-asked-requires
 asked-requires c κs = search needs

@@ -1,4 +1,4 @@
--- `exports::runs::ticks_fed` meets its contract: the invariant is that the ticks left, from here, give what all of them give.
+-- `exports_in_place::runs::ticks_fed` meets its contract: the invariant is that the ticks left, from here, give what all of them give.
 -- Assumes nothing.
 use mathlib.Core.Path.{_≡_, refl, _∙_}
 use mathlib.Core.List.{List}
@@ -10,10 +10,10 @@ use denote.Ref.{now}
 use Rattle.step.specs.Checks.{checks}
 use Rattle.step.specs.declared.checks.Checked.the-variants.{Passes}
 use Rattle.link.specs.InPlace.{linkOf}
 use Rattle.exports.specs.Feeding.{at, ticksFed}
 use Rattle.exports.proofs.Feeds.{ticks-start, ticks-on, ticks-end, ended}
-use Rattle.exports.proofs.runs.ticks_fed.Statement.{statement}
-use Rattle.exports.proofs.runs.ticks_fed.Tie as tie
+use Rattle.exports_in_place.proofs.runs.ticks_fed.Statement.{statement}
+use Rattle.exports_in_place.proofs.runs.ticks_fed.Tie as tie
 
 abbrev Inv-loop : tie.InvT-loop
 Inv-loop frame n line₀ up₀ core₀ sum₀ i₀ line up core sum i =

@@ -1,4 +1,4 @@
--- `exports::runs::bytes_fed` meets its contract: the invariant is that the bytes left, from here, give what all of them give.
+-- `exports_in_place::runs::bytes_fed` meets its contract: the invariant is that the bytes left, from here, give what all of them give.
 -- Assumes nothing.
 use mathlib.Core.Path.{_≡_, refl, _∙_}
 use Prim.Native.Nat.{_≤_, _-_}
@@ -9,10 +9,10 @@ use denote.Ref.{now}
 use Rattle.step.specs.Checks.{checks}
 use Rattle.step.specs.declared.checks.Checked.the-variants.{Passes}
 use Rattle.link.specs.InPlace.{linkOf}
 use Rattle.exports.specs.Feeding.{at, bytesFed}
 use Rattle.exports.proofs.Feeds.{bytes-on, bytes-end}
-use Rattle.exports.proofs.runs.bytes_fed.Statement.{statement}
-use Rattle.exports.proofs.runs.bytes_fed.Tie as tie
+use Rattle.exports_in_place.proofs.runs.bytes_fed.Statement.{statement}
+use Rattle.exports_in_place.proofs.runs.bytes_fed.Tie as tie
 
 abbrev Inv-loop : tie.InvT-loop
 Inv-loop body₀ frame input line₀ up₀ core₀ sum₀ i₀ body line up core sum i =

@@ -1,4 +1,4 @@
--- `exports::runs::runs_fed` meets its contract: the invariant is that the bytes left, from here, give what all of them give,
+-- `exports_in_place::runs::runs_fed` meets its contract: the invariant is that the bytes left, from here, give what all of them give,
 -- with as many runs as there are bytes left, since each takes at least one.
 -- Assumes nothing.
 use mathlib.Core.Path.{_≡_, refl, _∙_}
@@ -10,11 +10,11 @@ use denote.Ref.{now}
 use Rattle.step.specs.Checks.{checks}
 use Rattle.step.specs.declared.checks.Checked.the-variants.{Passes}
 use Rattle.link.specs.InPlace.{linkOf}
 use Rattle.exports.specs.Feeding.{runsFed}
 use Rattle.exports.proofs.Feeds.{ended}
 use Rattle.exports.proofs.Takes.{fed, part-given, taken-left, runs-stop, runs-on, runs-end}
-use Rattle.exports.proofs.runs.runs_fed.Statement.{statement}
-use Rattle.exports.proofs.runs.runs_fed.Tie as tie
+use Rattle.exports_in_place.proofs.runs.runs_fed.Statement.{statement}
+use Rattle.exports_in_place.proofs.runs.runs_fed.Tie as tie
 
 abbrev Inv-loop : tie.InvT-loop
 Inv-loop body₀ frame input most line₀ up₀ core₀ sum₀ at₀ body line up core sum at =

@@ -1,14 +1,14 @@
--- `exports::runs::asked` meets its contract: the session's promise, if one is asked for.
+-- `exports_in_place::runs::asked` meets its contract: the session's promise, if one is asked for.
 -- Assumes nothing.
 use mathlib.Core.Path.{ap}
 use denote.Ref.{now}
 use Rattle.step.specs.Core.{freshCore}
 use Rattle.step.specs.declared.core.Core.{Core}
 use Rattle.link.specs.InPlace.{linkOf}
 use Rattle.exports.proofs.Feeds.{asked-on, asked-not}
 use borrow.Author.Needs.{needs}
-use Rattle.exports.proofs.runs.asked.Statement.{statement}
-use Rattle.exports.proofs.runs.asked.Tie as tie
+use Rattle.exports_in_place.proofs.runs.asked.Statement.{statement}
+use Rattle.exports_in_place.proofs.runs.asked.Tie as tie
 
 fresh-requires : tie.Need-fresh-requires
 fresh-requires c κs = search needs

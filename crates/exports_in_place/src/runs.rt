@@ -1,9 +1,9 @@
 // Whole inputs given to a link whose arrays stay where the caller keeps them, call by call. What the calls told comes back as
 // one number. Every call of the link has one place in this module, since LLVM inlines what is called once. The measured calls
 // go to numbers and arrays that other calls prepared, so LLVM knows nothing of their state.
-use crate::numbers::answer_number;
-use crate::numbers::mix;
-use crate::numbers::tale_of;
+use exports::answer_number;
+use exports::mix;
+use exports::tale_of;
 use frame::MAX_BODY;
 use frame::MAX_FRAME;
 use link::byte_in;
