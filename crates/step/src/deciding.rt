@@ -154,12 +154,37 @@ fn decide_aside(job: Job, bad: u8, event: Event) -> Outcome
     }
 }
 
+// The same outcome, made anew of its parts: LLVM then keeps them in registers, whichever way they were decided. As one value they
+// would be in memory, stored in one width and loaded in another.
+fn anew(outcome: Outcome) -> Outcome
+    ensures { λ r. ⌜ r ≡ outcome ⌝ }
+{
+    let job = outcome.job;
+    let reception = outcome.reception;
+    let sending = outcome.sending;
+    let session = outcome.session;
+    let reset = outcome.reset;
+    let reply = outcome.reply;
+    Outcome {
+        job: job,
+        bad: outcome.bad,
+        reception: reception,
+        sending: sending,
+        session: session,
+        reset: reset,
+        reply: reply,
+        copy: outcome.copy,
+        up: outcome.up,
+    }
+}
+
 // What an event decides, by whether it concerns the job.
 pub fn decide(job: Job, bad: u8, size: u16, event: Event) -> Outcome
     ensures { λ r. ⌜ r ≡ spec.decide base size event job bad ⌝ }
 {
     if concerns(event, job) {
-        return decide_open(job, bad, size, event);
+        let open = decide_open(job, bad, size, event);
+        return anew(open);
     }
     decide_aside(job, bad, event)
 }

@@ -11,8 +11,11 @@ concerns-requires c κs = search needs
 decide-open-requires : tie.Need-decide-open-requires
 decide-open-requires c κs = search needs
 
+anew-requires : tie.Need-anew-requires
+anew-requires c κs = search needs
+
 returns : tie.Need-returns
-returns c = search needs
+returns c = c .anew .ensures ∙ c .before .decide-open .ensures
 
 decide-aside-requires : tie.Need-decide-aside-requires
 decide-aside-requires c κs = search needs
@@ -22,4 +25,4 @@ returns-2 c = c .decide-aside .ensures (sym (c .before .before .concerns .ensure
 
 pub decide-spec : {M : Type 1} → statement M
 decide-spec =
-    tie.close (tie.spec concerns-requires decide-open-requires returns decide-aside-requires returns-2)
+    tie.close (tie.spec concerns-requires decide-open-requires anew-requires returns decide-aside-requires returns-2)
