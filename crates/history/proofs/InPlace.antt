@@ -1,18 +1,27 @@
 -- A history played in place is one of the link's calls, so all that is proved of histories holds of it.
 --     plays-in-place        calls in place, one after the other, are calls of the link that the parts are
 --     plays-in-place-tied, plays-in-place-after   so they are what the history performs, from any parts, and from those of a fresh link
---     either-way            a call of the link is the call in place on its parts, put together
+--     called-either-way, ran-either-way           a call of the link is the call in place put together, by the promises
+--     either-way            and by what is played
 -- Assumes nothing.
 use mathlib.Core.Path.{_≡_, sym, ap, _∙_}
 use mathlib.Core.List.{List}
 use Prim.Native.Nat.{ℕ}
 use Rattle.rules.specs.Rules.{Rules}
 use Rattle.step.specs.declared.core.Core.{Core}
+use Rattle.step.specs.declared.checks.Checked.{Checked}
+use Rattle.link.specs.Out.{Out, Taken}
+use Rattle.link.specs.Calls.{CallPromise, RunPromise}
 use Rattle.link.specs.InPlace.{linkOf, putTogether, ranPutTogether}
+use Rattle.link.specs.declared.calls.Answered.{Answered}
+use Rattle.link.specs.declared.calls.Ran.{Ran}
+use Rattle.link.specs.declared.in_place.AnsweredIn.{AnsweredIn}
+use Rattle.link.specs.declared.in_place.RanIn.{RanIn}
+use Rattle.link.proofs.Theorems.{put-together, run-put-together}
 use Rattle.link.specs.declared.link.Link.{Link}
 use Rattle.history.specs.Perform.{What, Call, perform}
 use Rattle.history.specs.History.{next, run, after}
-use Rattle.history.specs.Played.{Played, Promised, byteCall, bytesCall, tickCall, sendCall, sessionCall, restartCall, Plays, noCalls, then, callOf, callsOf, toldOf, AllTied}
+use Rattle.history.specs.Played.{byCall, byRun, Played, played, Promised, byteCall, bytesCall, tickCall, sendCall, sessionCall, restartCall, Plays, noCalls, then, callOf, callsOf, toldOf, AllTied}
 use Rattle.history.specs.PlayedIn.{Parts, freshParts, wholeOf, PromisedIn, byteIn, bytesIn, tickIn, sendIn, sessionIn, restartIn, PlaysIn, noCallsIn, thenIn, SameAsked, SameTold}
 use Rattle.history.proofs.Promise.{promised, plays-tied, plays-after}
 
@@ -42,8 +51,25 @@ pub plays-in-place-after : (R : Rules) (n : Parts) (ps : List Played) → PlaysI
 plays-in-place-after R n ps h = plays-after R (wholeOf n) ps (plays-in-place R freshParts n ps h)
 
 -- ---- the same call, both ways
--- A call of the link and the same call in place on its parts, with the same bytes lent: they are answered the same, leave the same bytes,
--- and the link handed back is the parts put together. (What each call promises by itself: `put-together`, `run-put-together` of link.)
+-- Of promises: a call of the link and the call in place, under the same checks and with the same bytes lent, by `put-together` of link.
+pub called-either-way : (w : What) {own : Checked} {o : Out} {l : Link} {line up a b c d body frame : List ℕ} {r : Answered} {q : AnsweredIn}
+    → CallPromise own o l line up r a b → CallPromise own o l line up (putTogether q body frame) c d
+    → (r .link ≡ linkOf (q .core) body frame) × SameTold (played w line up (byCall (r .answer)) a b) (played w line up (byCall (q .answer)) c d)
+called-either-way w x y =
+    let e = put-together x y in (
+      ap (λ (z : Answered). z .link) (e .0),
+      record { told = ap (λ (z : Answered). byCall (z .answer)) (e .0); line-left = e .1; up-left = e .2 },
+    )
+
+pub ran-either-way : (w : What) {t : Taken} {l : Link} {line up a b c d body frame : List ℕ} {r : Ran} {q : RanIn}
+    → RunPromise t l line up r a b → RunPromise t l line up (ranPutTogether q body frame) c d
+    → (r .link ≡ linkOf (q .core) body frame) × SameTold (played w line up (byRun (r .answer)) a b) (played w line up (byRun (q .answer)) c d)
+ran-either-way w x y =
+    let e = run-put-together x y in
+    (ap (λ (z : Ran). z .link) (e .0), record { told = ap (λ (z : Ran). byRun (z .answer)) (e .0); line-left = e .1; up-left = e .2 })
+
+-- Of calls as they are played, whichever of the six: they are answered the same, leave the same bytes, and the link handed back is the
+-- parts put together.
 pub either-way : (R : Rules) (k n : Parts) (m : Link) (p q : Played) → Promised R (wholeOf k) p m
     → PromisedIn R (k .core) (k .body) (k .frame) q n → SameAsked p q → (m ≡ wholeOf n) × SameTold p q
 either-way R k n m p q x y s =
