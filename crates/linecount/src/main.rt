@@ -63,25 +63,29 @@ fn complain(sentence: &[u8]) {
     io::write_all(STDERR_FILENO, sentence);
 }
 
-fn print_line(key: &[u8], n: u64) {
-    io::write_all(STDOUT_FILENO, key);
-    io::print_decimal(STDOUT_FILENO, n);
-    io::write_all(STDOUT_FILENO, b"\n");
+// One line, where all before it was written; whether it was, too.
+fn print_line(is_written: bool, key: &[u8], n: u64) -> bool {
+    is_written
+        && io::write_all(STDOUT_FILENO, key)
+        && io::print_decimal(STDOUT_FILENO, n)
+        && io::write_all(STDOUT_FILENO, b"\n")
 }
 
 fn print(tally: Tally, cut: u64) {
     let counts = tally.counts;
-    print_line(b"ack=", counts.ack);
-    print_line(b"nak=", counts.nak);
-    print_line(b"can=", counts.can);
-    print_line(b"frames=", counts.frames);
-    print_line(b"badsum=", counts.badsum);
-    print_line(b"badlen=", counts.badlen);
-    print_line(b"reserved=", counts.reserved);
-    print_line(b"skipped=", counts.skipped);
+    let a = print_line(true, b"ack=", counts.ack);
+    let b = print_line(a, b"nak=", counts.nak);
+    let c = print_line(b, b"can=", counts.can);
+    let d = print_line(c, b"frames=", counts.frames);
+    let e = print_line(d, b"badsum=", counts.badsum);
+    let f = print_line(e, b"badlen=", counts.badlen);
+    let g = print_line(f, b"reserved=", counts.reserved);
+    let h = print_line(g, b"skipped=", counts.skipped);
     let hearing = tally.hearing;
-    print_line(b"open=", tally::open_bytes(hearing));
-    print_line(b"cut=", cut);
+    let i = print_line(h, b"open=", tally::open_bytes(hearing));
+    if !print_line(i, b"cut=", cut) {
+        complain(b"linecount: standard output can't be written\n");
+    }
 }
 
 // Only a byte behind the last that is counted shows that input remained unread.

@@ -1,89 +1,89 @@
 // The calls on the link, each with its line of output.
-use crate::words::is_nothing;
-use crate::words::put_parts;
+use crate::play::Player;
 use link::Answer;
 use link::Answered;
 use link::Link;
 use link::Ran;
 use link::RunAnswer;
+use orders::LinkVerb;
+use orders::behind;
+use orders::fill;
+use orders::is_spilled;
+use orders::is_tick;
+use orders::restore;
+use orders::spelt_at;
+use orders::times_of;
+use orders::within;
 use refusals::Refusal;
-use report::Report;
-use script::LinkVerb;
-use script::behind;
-use script::is_spilled;
-use script::is_tick;
-use script::put;
-use script::put_counted;
 use script::put_end;
-use script::put_front;
-use script::put_name;
-use script::put_refused;
-use script::restore;
-use script::spelt_at;
-use script::times_of;
+use script::say;
 
-// What lasts from call to call.
-pub struct Player {
-    pub link: Link,
-    // The ticks accepted since opening.
-    pub ticks: u64,
-    // The sizes of the two lent buffers.
-    pub line: usize,
-    pub up: usize,
-    // How many bytes wait in the output buffer.
-    pub waiting: usize,
-    // How many bytes are kept of a line of the script that has not ended yet.
-    pub kept: usize,
-    pub is_over: bool,
+const REFUSED: u64 = 0;
+
+const DONE: u64 = 1;
+
+const RAN: u64 = 2;
+
+// What a call answered, in numbers.
+struct Told {
+    // REFUSED, DONE or RAN, and with it the refusal's number, 0, or how many bytes the run took.
+    pub kind: u64,
+    pub number: u64,
+    // The report (section 7): the place of each part in its list, with its value, and the bytes for the line and handed up.
+    pub report: [u64; 8],
 }
 
-// What a call answered.
-enum LineAnswer {
-    Refused(Refusal),
-    Done(Report),
-    // A run of bytes, with how many it took.
-    Took(Report, usize),
-}
-
-// A call's outcome, and the link that it left.
+// A call's answer, and the link that it left.
 struct Called {
     pub link: Link,
-    pub outcome: LineAnswer,
+    pub told: Told,
 }
 
-// How many bytes a call reports for the line and handed up.
-struct ByteCounts {
-    pub line: usize,
-    pub up: usize,
+fn refused(refusal: Refusal) -> Told {
+    Told {
+        kind: REFUSED,
+        number: refusals::number_of(refusal) as u64,
+        report: [0; 8],
+    }
 }
 
-fn told(answered: Answered) -> Called {
-    let link = answered.link;
-    let answer = answered.answer;
+fn told_once(answer: Answer) -> Told {
     match answer {
-        Answer::Refused(refusal) => Called {
-            link: link,
-            outcome: LineAnswer::Refused(refusal),
-        },
-        Answer::Done(report) => Called {
-            link: link,
-            outcome: LineAnswer::Done(report),
+        Answer::Refused(refusal) => refused(refusal),
+        Answer::Done(report) => Told {
+            kind: DONE,
+            number: 0,
+            report: report::report_told(report),
         },
     }
 }
 
-fn told_run(ran: Ran) -> Called {
+fn told_run(answer: RunAnswer) -> Told {
+    match answer {
+        RunAnswer::Refused(refusal) => refused(refusal),
+        RunAnswer::Done(report, taken) => Told {
+            kind: RAN,
+            number: taken as u64,
+            report: report::report_told(report),
+        },
+    }
+}
+
+fn after(answered: Answered) -> Called {
+    let link = answered.link;
+    let answer = answered.answer;
+    Called {
+        link: link,
+        told: told_once(answer),
+    }
+}
+
+fn after_run(ran: Ran) -> Called {
     let link = ran.link;
     let answer = ran.answer;
-    match answer {
-        RunAnswer::Refused(refusal) => Called {
-            link: link,
-            outcome: LineAnswer::Refused(refusal),
-        },
-        RunAnswer::Done(report, taken) => Called {
-            link: link,
-            outcome: LineAnswer::Took(report, taken),
-        },
+    Called {
+        link: link,
+        told: told_run(answer),
     }
 }
 
@@ -93,89 +93,80 @@ fn call(verb: LinkVerb, link: Link, bytes: &[u8], line: &mut [u8], up: &mut [u8]
         LinkVerb::Send => {
             let kind = spelt_at(bytes, 0);
             let command = spelt_at(bytes, 1);
-            told(link.send(kind, command, behind(bytes, 2), line, up))
+            after(link.send(kind, command, behind(bytes, 2), line, up))
         }
         LinkVerb::Session => {
             let command = spelt_at(bytes, 0);
-            told(link.session(command, behind(bytes, 1), line, up))
+            after(link.session(command, behind(bytes, 1), line, up))
         }
-        LinkVerb::Byte => told(link.byte(spelt_at(bytes, 0), line, up)),
-        LinkVerb::Bytes => told_run(link.bytes(bytes, line, up)),
-        LinkVerb::Tick | LinkVerb::Ticks => told(link.tick(line, up)),
-        LinkVerb::Restart => told(link.restart(line, up)),
-    }
-}
-
-fn counted(report: Report) -> ByteCounts {
-    ByteCounts {
-        line: report.line as usize,
-        up: report.up as usize,
-    }
-}
-
-fn counts_of(outcome: LineAnswer) -> ByteCounts {
-    match outcome {
-        LineAnswer::Refused(_) => ByteCounts { line: 0, up: 0 },
-        LineAnswer::Done(report) => counted(report),
-        LineAnswer::Took(report, _) => counted(report),
+        LinkVerb::Byte => after(link.byte(spelt_at(bytes, 0), line, up)),
+        LinkVerb::Bytes => after_run(link.bytes(bytes, line, up)),
+        LinkVerb::Tick | LinkVerb::Ticks => after(link.tick(line, up)),
+        LinkVerb::Restart => after(link.restart(line, up)),
     }
 }
 
 // The ticks accepted with this call. No script is long enough for their count to wrap.
-fn ticks_with(verb: LinkVerb, outcome: LineAnswer, ticks: u64) -> u64 {
-    if !is_tick(verb) {
+fn ticks_with(verb: LinkVerb, kind: u64, ticks: u64) -> u64 {
+    if kind == REFUSED {
         return ticks;
     }
-    if let LineAnswer::Refused(_) = outcome {
-        return ticks;
+    if is_tick(verb) {
+        return std::num::wrapping_add_u64(ticks, 1);
     }
-    std::num::wrapping_add_u64(ticks, 1)
+    ticks
 }
 
-// Whether a byte beyond those reported was written.
-fn is_spill(counts: ByteCounts, line: &[u8], up: &[u8]) -> bool {
-    if is_spilled(line, counts.line) {
-        return true;
+// Whether the report says nothing, in all its parts, and no byte was put out or handed up.
+fn is_nothing(told: Told) -> bool {
+    if told.kind == REFUSED {
+        return false;
     }
-    is_spilled(up, counts.up)
+    let report = told.report;
+    let parts = report[0] | report[1] | report[2] | report[3];
+    let rest = report[4] | report[5] | report[6] | report[7];
+    parts | rest == 0
 }
 
 // Whether a call has a line of output: of many ticks, only those that have something to tell.
-fn is_told(verb: LinkVerb, outcome: LineAnswer, spilled: bool) -> bool {
-    let LinkVerb::Ticks = verb else {
-        return true;
-    };
+fn has_line(verb: LinkVerb, told: Told, spilled: bool) -> bool {
     if spilled {
         return true;
     }
-    match outcome {
-        LineAnswer::Refused(_) | LineAnswer::Took(_, _) => true,
-        LineAnswer::Done(report) => !is_nothing(report),
+    let LinkVerb::Ticks = verb else {
+        return true;
+    };
+    !is_nothing(told)
+}
+
+// The parts of a report that was made.
+fn put_report(told: Told, line: &[u8], up: &[u8], out: &mut [u8], waiting: usize) -> usize {
+    if told.kind == REFUSED {
+        return waiting;
     }
+    let report = told.report;
+    say(
+        b" rx={nothing,skipped,badlen,frame,reserved,badsum,abort,strayresponse}\
+        \x20tx=(nothing,stray,due,copy:,backoff:,acked:,failed:,abandoned)\
+        \x20session=(nothing,waiting,response:,noresponse:,notsent:,abandoned)\
+        \x20reset={none,sums,delivery} line=& up=@",
+        report,
+        line,
+        up,
+        out,
+        waiting,
+    )
 }
 
-fn put_report(report: Report, line: &[u8], up: &[u8], out: &mut [u8], waiting: usize) -> usize {
-    let a = put_parts(report, out, waiting);
-    let b = put(b" line=", out, a);
-    let c = put_front(line, report.line as usize, out, b);
-    let d = put(b" up=", out, c);
-    put_front(up, report.up as usize, out, d)
-}
-
-fn put_outcome(
-    outcome: LineAnswer,
-    line: &[u8],
-    up: &[u8],
-    out: &mut [u8],
-    waiting: usize,
-) -> usize {
-    match outcome {
-        LineAnswer::Refused(refusal) => put_refused(refusal, out, waiting),
-        LineAnswer::Done(report) => put_report(report, line, up, out, waiting),
-        LineAnswer::Took(report, taken) => {
-            let w = put_counted(b" taken=", taken as u64, out, waiting);
-            put_report(report, line, up, out, w)
-        }
+// A call's place among the names. Each of many ticks is named as one.
+fn name_of(verb: LinkVerb) -> u64 {
+    match verb {
+        LinkVerb::Send => 0,
+        LinkVerb::Session => 1,
+        LinkVerb::Byte => 2,
+        LinkVerb::Bytes => 3,
+        LinkVerb::Tick | LinkVerb::Ticks => 4,
+        LinkVerb::Restart => 5,
     }
 }
 
@@ -183,38 +174,45 @@ fn put_outcome(
 fn put_line(
     verb: LinkVerb,
     ticks: u64,
-    outcome: LineAnswer,
-    spilled: bool,
+    told: Told,
     line: &[u8],
     up: &[u8],
     out: &mut [u8],
     waiting: usize,
 ) -> usize {
-    let a = put_name(verb, out, waiting);
-    let b = put_counted(b" at=", ticks, out, a);
-    let c = put_outcome(outcome, line, up, out, b);
-    put_end(spilled, out, c)
+    let values = [name_of(verb), ticks, told.kind, told.number, 0, 0, 0, 0];
+    let w = say(
+        b"{send,session,byte,bytes,tick,restart} at=#{ refused=#,, taken=#}",
+        values,
+        line,
+        up,
+        out,
+        waiting,
+    );
+    put_report(told, line, up, out, w)
 }
 
 // The call's line of output, where it has one. The lent buffers are again as they were before the call.
 fn tell(
     verb: LinkVerb,
     ticks: u64,
-    outcome: LineAnswer,
+    told: Told,
     line: &mut [u8],
     up: &mut [u8],
     out: &mut [u8],
     waiting: usize,
 ) -> usize {
-    let counts = counts_of(outcome);
-    let spilled = is_spill(counts, line, up);
-    if !is_told(verb, outcome, spilled) {
+    let report = told.report;
+    let n = report[6] as usize;
+    let k = report[7] as usize;
+    let spilled = is_spilled(line, n) || is_spilled(up, k);
+    if !has_line(verb, told, spilled) {
         return waiting;
     }
-    let told = put_line(verb, ticks, outcome, spilled, line, up, out, waiting);
-    restore(line, counts.line);
-    restore(up, counts.up);
-    told
+    let w = put_line(verb, ticks, told, line, up, out, waiting);
+    restore(line, n);
+    restore(up, k);
+    put_end(spilled, out, w)
 }
 
 // One call with its line of output.
@@ -229,26 +227,25 @@ fn play_once(
     let link = player.link;
     let called = call(verb, link, bytes, line, up);
     let left = called.link;
-    let outcome = called.outcome;
-    let ticks = ticks_with(verb, outcome, player.ticks);
+    let told = called.told;
+    let ticks = ticks_with(verb, told.kind, player.ticks);
     let mut next = player;
     next.link = left;
     next.ticks = ticks;
-    next.waiting = tell(verb, ticks, outcome, line, up, out, player.waiting);
+    next.waiting = tell(verb, ticks, told, line, up, out, player.waiting);
     next
 }
 
-// The calls on the link that an order asks for.
-pub fn on_link(
+// The calls that an order asks for.
+fn play_all(
     verb: LinkVerb,
-    n: u32,
+    times: u32,
     bytes: &[u8],
     player: Player,
     line: &mut [u8],
     up: &mut [u8],
     out: &mut [u8],
 ) -> Player {
-    let times = times_of(verb, n);
     let mut next = player;
     let mut i = 0;
     while i < times {
@@ -256,4 +253,24 @@ pub fn on_link(
         i += 1;
     }
     next
+}
+
+// The calls on the link that an order asks for, each lent as much of two buffers as the play says.
+pub fn on_link(verb: LinkVerb, n: u32, bytes: &[u8], player: Player, out: &mut [u8]) -> Player {
+    let times = times_of(verb, n);
+    let mut line = [0u8; 600];
+    let mut up = [0u8; 600];
+    fill(&mut line);
+    fill(&mut up);
+    let n = within(player.line, &line);
+    let k = within(player.up, &up);
+    play_all(
+        verb,
+        times,
+        bytes,
+        player,
+        &mut line[0..n],
+        &mut up[0..k],
+        out,
+    )
 }

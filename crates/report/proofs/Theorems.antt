@@ -1,5 +1,6 @@
 -- What is told of a report is all of it (section 7).
 --     report-back          the report from what is told of it; report-told-injective: so no two reports are told alike
+--     report-told-determined   what `report_told` answers
 -- Assumes nothing.
 use mathlib.Core.Path.{_≡_, refl, sym, ap, ap₂, _∙_}
 use mathlib.Core.List.{List, [], _∷_}
@@ -120,3 +121,8 @@ report-back r =
 
 pub report-told-injective : (r q : Report) → reportTold r ≡ reportTold q → r ≡ q
 report-told-injective r q e = sym (report-back r) ∙ ap reportAt e ∙ report-back q
+
+-- ---- Determinacy: the promise of `report_told` leaves one answer
+
+pub report-told-determined : (report : Report) {r q : List ℕ} → r ≡ reportTold report → q ≡ reportTold report → r ≡ q
+report-told-determined report h k = h ∙ sym k

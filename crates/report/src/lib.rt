@@ -1,5 +1,8 @@
 // The report (document 01, section 7): its types. One record of four parts, each a case with its own data, and beside them the
-// numbers of bytes. No function: what each part says is decided where it happens, in `reception`, `job`, `sending` and `step`.
+// numbers of bytes. What each part says is decided where it happens, in `reception`, `job`, `sending` and `step`.
+mod told;
+
+pub use told::report_told;
 use units::Millis;
 
 pub enum Reception {

@@ -1,37 +1,16 @@
-// What linkplay does without a link: the lines of a script are read, the calls on frames and on command bodies carried out, and lines of output put together.
-mod body_calls;
-mod frame_calls;
-mod lent;
+// What linkplay does without a link: the lines of a script are read by a table of verbs, the calls on frames and on command bodies carried out, and lines of output put together by their forms.
+mod calls;
+mod form;
+mod number;
 mod order;
-mod other_calls;
 mod printing;
-mod verb;
+mod table;
 
-pub use lent::fill;
-pub use lent::is_spilled;
-pub use lent::restore;
-pub use lent::within;
+pub use calls::on_other;
+pub use form::say;
 pub use order::Order;
-pub use order::behind;
 pub use order::keep;
 pub use order::order_of;
-pub use order::spelt_at;
-pub use other_calls::on_other;
-pub use printing::Word;
 pub use printing::flush;
-pub use printing::numbered;
-pub use printing::plain;
-pub use printing::put;
-pub use printing::put_counted;
+pub use printing::is_broken;
 pub use printing::put_end;
-pub use printing::put_front;
-pub use printing::put_nth;
-pub use printing::put_one;
-pub use printing::put_refused;
-pub use verb::BodyVerb;
-pub use verb::FrameVerb;
-pub use verb::LinkVerb;
-pub use verb::Verb;
-pub use verb::is_tick;
-pub use verb::put_name;
-pub use verb::times_of;

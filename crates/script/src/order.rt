@@ -1,224 +1,44 @@
-// A line of a script: its words, the numbers and the bytes that they spell.
-use crate::verb::Verb;
-use crate::verb::shape_of;
-use crate::verb::verb_of;
-ghost use Prim.Native.Nat.{_+_, _≤_};
-ghost use lib.ListN.{length};
+// A line of a script becomes an order: its words are read one by one, by the shape that its verb has in the table.
+use crate::number::number_at;
+use crate::table::end_of;
+use crate::table::past;
+use crate::table::row_of;
+use orders::behind;
+use orders::spelt_at;
 
-// The most bytes that a lent buffer has.
-const MOST_SIZE: u32 = 600;
-// A number has at most nine digits.
-const MOST_NUMBER: u32 = 999999999;
 // A line longer than the text buffer counts as this many bytes.
 const TOO_LONG: usize = 4097;
 
-// What a line asks for. The verb is unknown where the line is an error. The bytes that its words spell stand over its own front.
+// What a line asks for. The bytes that its words spell stand over its own front.
 pub struct Order {
-    pub verb: Verb,
-    pub numbers: [u32; 3],
+    // The letter of the call; BLANK for an empty line or a comment, ERROR where the line is one.
+    pub call: u8,
+    // The size of the buffer that the call is lent.
+    pub room: usize,
+    // The last number of the line, and the one before it.
+    pub number: u32,
+    pub before: u32,
+    // How many bytes there are.
     pub count: usize,
+    // Where the form of the answer stands in the table; that of an error is its first line.
+    pub form: usize,
 }
 
-enum Number {
-    // With the place behind it.
-    Value(u32, usize),
-    Wrong,
+impl Order {
+    pub const BLANK: u8 = b'#';
+
+    pub const ERROR: u8 = 0;
 }
 
-// The numbers found so far, and the place behind them.
-struct Numbers {
-    pub values: [u32; 3],
-    pub count: usize,
-    pub next: usize,
-    pub is_wrong: bool,
-}
-
-enum Spelt {
-    Byte(u8),
-    Wrong,
-}
-
-enum Bytes {
-    Count(usize),
-    Wrong,
-}
-
-// The end of the line's first word.
-pub fn word_end(text: &[u8]) -> usize
-    ensures { λ r. ⌜ r ≤ length (now (text .entry)) ⌝ }
-{
-    let mut i = 0;
-    while i < text.len() {
-        if text[i] == b' ' {
-            return i;
-        }
-        i += 1;
-    }
-    i
-}
-
-// The value of a hexadecimal digit in either case, 16 for any other character.
-fn value(c: u8) -> u8 {
-    match c {
-        b'0'..=b'9' => c - 48,
-        b'A'..=b'F' => c - 55,
-        b'a'..=b'f' => c - 87,
-        _ => 16,
-    }
-}
-
-// The number that these digits spell, with the place behind it.
-fn number_of(word: &[u8], next: usize) -> Number
-    requires { ⌜ length (now word) ≤ 9 ⌝ }
-{
-    let mut n: u32 = 0;
-    let mut i = 0;
-    while i < word.len() {
-        let d = value(word[i]);
-        if 9 < d {
-            return Number::Wrong;
-        }
-        n = n * 10 + d as u32;
-        i += 1;
-    }
-    Number::Value(n, next)
-}
-
-// The number of 1 to 9 digits behind the space at a place.
-fn number_at(text: &[u8], at: usize) -> Number {
-    if text.len() <= at {
-        return Number::Wrong;
-    }
-    if text[at] != b' ' {
-        return Number::Wrong;
-    }
-    let rest = &text[at + 1..];
-    let n = word_end(rest);
-    if n == 0 {
-        return Number::Wrong;
-    }
-    if 9 < n {
-        return Number::Wrong;
-    }
-    number_of(&rest[0..n], at + 1 + n)
-}
-
-// With the next number of the line; one above `most` is wrong.
-fn with_next(numbers: Numbers, text: &[u8], most: u32) -> Numbers {
-    let mut wrong = numbers;
-    wrong.is_wrong = true;
-    let found = number_at(text, numbers.next);
-    let Number::Value(number, next) = found else {
-        return wrong;
-    };
-    if most < number {
-        return wrong;
-    }
-    let mut longer = numbers;
-    let at = longer.count;
-    if at < 3 {
-        longer.values[at] = number;
-        longer.count = at + 1;
-    }
-    longer.next = next;
-    longer
-}
-
-// With so many further numbers of the line.
-fn with_more(numbers: Numbers, text: &[u8], count: usize, most: u32) -> Numbers {
-    let mut all = numbers;
-    let mut i = 0;
-    while i < count {
-        all = with_next(all, text, most);
-        i += 1;
-    }
-    all
-}
-
-// The byte that two hexadecimal digits spell behind the space at a place.
-fn byte_at(text: &[u8], at: usize) -> Spelt
-    requires { ⌜ at + 3 ≤ length (now text) ⌝ }
-{
-    if text[at] != b' ' {
-        return Spelt::Wrong;
-    }
-    let high = value(text[at + 1]);
-    let low = value(text[at + 2]);
-    if 15 < high {
-        return Spelt::Wrong;
-    }
-    if 15 < low {
-        return Spelt::Wrong;
-    }
-    Spelt::Byte(high * 16 + low)
-}
-
-// Puts the bytes that the words from a place on spell over the line's front. Each took three characters, so none is lost before it is read.
-fn spell(text: &mut [u8], from: usize) -> Bytes {
-    if text.len() < from {
-        return Bytes::Wrong;
-    }
-    let mut at = from;
-    let mut n = 0;
-    while 3 <= text.len() - at {
-        let spelt = byte_at(text, at);
-        let Spelt::Byte(b) = spelt else {
-            return Bytes::Wrong;
-        };
-        text[n] = b;
-        n += 1;
-        at += 3;
-    }
-    if at < text.len() {
-        return Bytes::Wrong;
-    }
-    Bytes::Count(n)
-}
-
-fn wordless(verb: Verb) -> Order {
+fn wordless(call: u8) -> Order {
     Order {
-        verb: verb,
-        numbers: [0; 3],
+        call: call,
+        room: 0,
+        number: 0,
+        before: 0,
         count: 0,
+        form: 0,
     }
-}
-
-// What is left of the line behind its numbers: the bytes.
-fn with_bytes(verb: Verb, numbers: Numbers, text: &mut [u8], least: usize, most: usize) -> Order {
-    let values = numbers.values;
-    let found = spell(text, numbers.next);
-    let Bytes::Count(count) = found else {
-        return wordless(Verb::Unknown);
-    };
-    if count < least {
-        return wordless(Verb::Unknown);
-    }
-    if most < count {
-        return wordless(Verb::Unknown);
-    }
-    Order {
-        verb: verb,
-        numbers: values,
-        count: count,
-    }
-}
-
-fn order_in(text: &mut [u8]) -> Order {
-    let end = word_end(text);
-    let verb = verb_of(&text[0..end]);
-    let shape = shape_of(verb);
-    let none = Numbers {
-        values: [0; 3],
-        count: 0,
-        next: end,
-        is_wrong: false,
-    };
-    let sizes = with_more(none, text, shape.sizes, MOST_SIZE);
-    let numbers = with_more(sizes, text, shape.numbers, MOST_NUMBER);
-    if numbers.is_wrong {
-        return wordless(Verb::Unknown);
-    }
-    with_bytes(verb, numbers, text, shape.least, shape.most)
 }
 
 // Keeps a byte of a line behind the first n, and answers how many the line has then.
@@ -230,32 +50,90 @@ pub fn keep(b: u8, text: &mut [u8], n: usize) -> usize {
     TOO_LONG
 }
 
+// With the word that was read next.
+fn with_word(order: Order, kind: u8, value: u32, text: &mut [u8]) -> Order {
+    let mut longer = order;
+    if kind == b'b' || kind == b'*' {
+        longer.count = keep((value % 256) as u8, text, order.count);
+        return longer;
+    }
+    if kind == b's' {
+        longer.room = value as usize;
+        return longer;
+    }
+    longer.before = order.number;
+    longer.number = value;
+    longer
+}
+
+// The next letter of a shape. A star stays: behind all others a shape may have one, for any further bytes.
+fn next_in(shape: &[u8], at: usize) -> usize {
+    if spelt_at(shape, at) == b'*' {
+        return at;
+    }
+    if at < shape.len() {
+        return at + 1;
+    }
+    at
+}
+
+// Whether no further word is missing. A verb that the table does not have has no shape, so that the letter there is 0.
+fn is_whole(letter: u8) -> bool {
+    match letter {
+        b's' | b't' | b'n' | b'b' | 0 => false,
+        _ => true,
+    }
+}
+
+// The order with the words of the line, each of which has a space before it. A byte took three characters, so none is lost before it is read.
+fn with_words(order: Order, shape: &[u8], text: &mut [u8], from: usize) -> Order {
+    let mut all = order;
+    let mut k = 0;
+    let mut at = from;
+    while at < text.len() {
+        let kind = spelt_at(shape, k);
+        let number = number_at(text, at + 1, kind);
+        if !number.is_right {
+            return wordless(Order::ERROR);
+        }
+        all = with_word(all, kind, number.value, text);
+        k = next_in(shape, k);
+        at = number.next;
+    }
+    if is_whole(spelt_at(shape, k)) {
+        return all;
+    }
+    wordless(Order::ERROR)
+}
+
+// What a line asks for, by the row of its verb. Where there is none, the shape is empty.
+fn order_in(verbs: &[u8], text: &mut [u8]) -> Order {
+    let end = end_of(text, 0, b' ');
+    let row = row_of(verbs, &text[0..end]);
+    let room = past(verbs, row, b' ');
+    let shape = past(verbs, room, b' ');
+    let size = number_at(verbs, room, b's');
+    let order = Order {
+        call: spelt_at(verbs, row),
+        room: size.value as usize,
+        number: 0,
+        before: 0,
+        count: 0,
+        form: past(verbs, shape, b' '),
+    };
+    with_words(order, behind(verbs, shape), text, end)
+}
+
 // What a line of n bytes asks for, of which the text has as many as it has room for.
-pub fn order_of(text: &mut [u8], n: usize) -> Order {
+pub fn order_of(verbs: &[u8], text: &mut [u8], n: usize) -> Order {
     if text.len() < n {
-        return wordless(Verb::Unknown);
+        return wordless(Order::ERROR);
     }
     if n == 0 {
-        return wordless(Verb::Blank);
+        return wordless(Order::BLANK);
     }
     if text[0] == b'#' {
-        return wordless(Verb::Blank);
+        return wordless(Order::BLANK);
     }
-    order_in(&mut text[0..n])
-}
-
-// The byte of an order at a place, 0 where there is none.
-pub fn spelt_at(bytes: &[u8], at: usize) -> u8 {
-    if at < bytes.len() {
-        return bytes[at];
-    }
-    0
-}
-
-// What follows the first n bytes.
-pub fn behind(bytes: &[u8], n: usize) -> &[u8] {
-    if n <= bytes.len() {
-        return &bytes[n..];
-    }
-    &bytes[..0]
+    order_in(verbs, &mut text[0..n])
 }

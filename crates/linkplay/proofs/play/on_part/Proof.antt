@@ -2,16 +2,16 @@
 -- Assumes nothing.
 use borrow.Author.Needs.{needs}
 use Prim.Native.Nat.{_-_}
-use mathlib.Core.Path.{_≡_}
 use lib.ListN.{length}
+use mathlib.Core.Path.{_≡_}
 use Rattle.linkplay.proofs.play.on_part.Statement.{statement}
 use Rattle.linkplay.proofs.play.on_part.Tie as tie
 
 abbrev Inv-loop : tie.InvT-loop
-Inv-loop part text₀ line₀ up₀ out₀ next₀ kept₀ i₀ text line up out next kept i = (length text ≡ length text₀) × (length line ≡ length line₀) × (length up ≡ length up₀) × (length out ≡ length out₀)
+Inv-loop part text₀ out₀ next₀ kept₀ i₀ text out next kept i = (length text ≡ length text₀) × (length out ≡ length out₀)
 
 abbrev μ-loop : tie.MeasureT-loop
-μ-loop part text₀ line₀ up₀ out₀ next₀ kept₀ i₀ text line up out next kept i = length part - i
+μ-loop part text₀ out₀ next₀ kept₀ i₀ text out next kept i = length part - i
 
 loop-holds : tie.Need-loop-holds Inv-loop μ-loop
 loop-holds c = search needs
@@ -46,12 +46,6 @@ same-length c = search needs
 same-length-2 : tie.Need-same-length-2 Inv-loop μ-loop
 same-length-2 c = search needs
 
-same-length-3 : tie.Need-same-length-3 Inv-loop μ-loop
-same-length-3 c = search needs
-
-same-length-4 : tie.Need-same-length-4 Inv-loop μ-loop
-same-length-4 c = search needs
-
 returns : tie.Need-returns Inv-loop μ-loop
 returns c = search needs
 
@@ -72,6 +66,4 @@ on-part-spec =
     loop-again-2
     same-length
     same-length-2
-    same-length-3
-    same-length-4
     returns)

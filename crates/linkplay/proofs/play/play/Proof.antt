@@ -1,22 +1,16 @@
 -- `linkplay::play::play` is safe and ends. The invariant: the lent buffers keep their lengths. The measure is the number of turns that are left.
 -- Assumes nothing.
 use borrow.Author.Needs.{needs}
-use mathlib.Core.Path.{_≡_}
 use lib.ListN.{length}
+use mathlib.Core.Path.{_≡_}
 use Rattle.linkplay.proofs.play.play.Statement.{statement}
 use Rattle.linkplay.proofs.play.play.Tie as tie
 
 abbrev Inv-loop : tie.InvT-loop
-Inv-loop script₀ text₀ line₀ up₀ out₀ player₀ turns₀ script text line up out player turns = (length script ≡ length script₀) × (length text ≡ length text₀) × (length line ≡ length line₀) × (length up ≡ length up₀) × (length out ≡ length out₀)
+Inv-loop text₀ out₀ player₀ turns₀ text out player turns = (length text ≡ length text₀) × (length out ≡ length out₀)
 
 abbrev μ-loop : tie.MeasureT-loop
-μ-loop script₀ text₀ line₀ up₀ out₀ player₀ turns₀ script text line up out player turns = turns
-
-fill-requires : tie.Need-fill-requires Inv-loop μ-loop
-fill-requires c κs = search needs
-
-fill-requires-2 : tie.Need-fill-requires-2 Inv-loop μ-loop
-fill-requires-2 c κs = search needs
+μ-loop text₀ out₀ player₀ turns₀ text out player turns = turns
 
 opened-requires : tie.Need-opened-requires Inv-loop μ-loop
 opened-requires c κs = search needs
@@ -45,15 +39,6 @@ same-length c = search needs
 same-length-2 : tie.Need-same-length-2 Inv-loop μ-loop
 same-length-2 c = search needs
 
-same-length-3 : tie.Need-same-length-3 Inv-loop μ-loop
-same-length-3 c = search needs
-
-same-length-4 : tie.Need-same-length-4 Inv-loop μ-loop
-same-length-4 c = search needs
-
-same-length-5 : tie.Need-same-length-5 Inv-loop μ-loop
-same-length-5 c = search needs
-
 returns : tie.Need-returns Inv-loop μ-loop
 returns c = search needs
 
@@ -63,8 +48,6 @@ play-spec =
     (tie.spec
     Inv-loop
     μ-loop
-    fill-requires
-    fill-requires-2
     opened-requires
     loop-holds
     on-read-requires
@@ -74,7 +57,4 @@ play-spec =
     finish-requires
     same-length
     same-length-2
-    same-length-3
-    same-length-4
-    same-length-5
     returns)

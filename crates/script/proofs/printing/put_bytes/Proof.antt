@@ -2,8 +2,8 @@
 -- Assumes nothing.
 use borrow.Author.Needs.{needs}
 use Prim.Native.Nat.{_-_}
-use mathlib.Core.Path.{_≡_}
 use lib.ListN.{length}
+use mathlib.Core.Path.{_≡_}
 use Rattle.script.proofs.printing.put_bytes.Statement.{statement}
 use Rattle.script.proofs.printing.put_bytes.Tie as tie
 
@@ -12,9 +12,6 @@ Inv-loop bytes out₀ waiting now₀ i₀ out now i = length out ≡ length out�
 
 abbrev μ-loop : tie.MeasureT-loop
 μ-loop bytes out₀ waiting now₀ i₀ out now i = length bytes - i
-
-slice-aggregate-put : tie.Need-slice-aggregate-put Inv-loop μ-loop
-slice-aggregate-put c = search needs
 
 put-requires : tie.Need-put-requires Inv-loop μ-loop
 put-requires c κs = search needs
@@ -55,7 +52,6 @@ put-bytes-spec =
     (tie.spec
     Inv-loop
     μ-loop
-    slice-aggregate-put
     put-requires
     same-length
     returns

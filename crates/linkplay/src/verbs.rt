@@ -1,0 +1,58 @@
+// The verbs of a script. Adding one is a line of the table below, and an arm where its call is made: for the link's calls and what a play sets here, for all others in crates/script/src/calls.rt. crates/script/src/table.rt says what stands in a line, and form.rt there what its last words mean; the link's calls have their forms in link_calls.rt.
+use crate::play::Player;
+use crate::play::by_table;
+use orders::LinkVerb;
+use script::Order;
+
+// Who carries an order out.
+pub enum Verb {
+    Link(LinkVerb),
+    // The sizes of the lent buffers.
+    Room,
+    // A call on a frame or a command body, and a line that is an error.
+    Other,
+    Blank,
+}
+
+pub fn verb_of(call: u8) -> Verb {
+    match call {
+        b'S' => Verb::Link(LinkVerb::Send),
+        b'Q' => Verb::Link(LinkVerb::Session),
+        b'B' => Verb::Link(LinkVerb::Byte),
+        b'R' => Verb::Link(LinkVerb::Bytes),
+        b'T' => Verb::Link(LinkVerb::Tick),
+        b'N' => Verb::Link(LinkVerb::Ticks),
+        b'X' => Verb::Link(LinkVerb::Restart),
+        b'L' => Verb::Room,
+        Order::BLANK => Verb::Blank,
+        _ => Verb::Other,
+    }
+}
+
+// One line of the script, of n bytes.
+pub fn on_line(text: &mut [u8], n: usize, player: Player, out: &mut [u8]) -> Player {
+    by_table(
+        b"error\n\
+        send S 0 bb* .\n\
+        session Q 0 b* .\n\
+        byte B 0 b .\n\
+        bytes R 0 * .\n\
+        tick T 0 . .\n\
+        ticks N 0 n .\n\
+        restart X 0 . .\n\
+        room L 0 st .\n\
+        build b 257 bb* build {ok &,refused=#}\n\
+        buildroom b 257 sbb* build {ok &,refused=#}\n\
+        read r 0 * read {ok type=% command=% parameters=@,refused=#}\n\
+        capabilities c 255 * capabilities {ok fixed=%%$$$ count=# functions=&,refused=#}\n\
+        nodes n 232 * nodes {ok version=% capabilities=% nodes=& chip=% chipversion=%,refused=#}\n\
+        nodesroom n 232 s* nodes {ok version=% capabilities=% nodes=& chip=% chipversion=%,refused=#}\n\
+        timeouts t 7 nn timeouts {ok &,refused=#}\n\
+        timeoutsroom t 7 snn timeouts {ok &,refused=#}\n\
+        timeoutsres o 0 * timeoutsres {ok # #,refused=#}\n",
+        text,
+        n,
+        player,
+        out,
+    )
+}
