@@ -11,6 +11,7 @@ use lib.Dec.{leb, ltb, lit<, lit≤}
 use lib.ListN.{length, drop, getD, length-drop, drop-of-length-le, List·getD-append}
 use lib.Seq.{drop-at, getD-at, getD-drop}
 use borrow.Author.Tests.{eq-eqb, ltb-true, ltb-false, leb-true, leb-false}
+use Rattle.refusals.proofs.Theorems.{fixed}
 use Rattle.orders.specs.declared.verb.LinkVerb.{LinkVerb}
 use Rattle.orders.specs.Verb.{isTick, timesOf}
 use Rattle.orders.specs.Bytes.{speltAt}
@@ -18,9 +19,6 @@ use Rattle.orders.specs.Lent.{mark, pattern, differs, isSpilled}
 use Rattle.orders.proofs.Patterns.{pattern-length, goes-on}
 
 -- Each promise determines its answer, or every lent byte after the call.
-
-fixed : {A : Type 0} {r q x : A} → r ≡ x → q ≡ x → r ≡ q
-fixed a b = a ∙ sym b
 
 pub is-tick-determined : (verb : LinkVerb) {r q : Bool} → r ≡ isTick verb → q ≡ isTick verb → r ≡ q
 is-tick-determined verb = fixed

@@ -6,6 +6,7 @@ use mathlib.Core.Path.{_≡_, refl, sym, ap, ap₂, _∙_}
 use mathlib.Core.List.{List, [], _∷_}
 use Prim.Native.Nat.{ℕ}
 use lib.ListN.{getD}
+use Rattle.refusals.proofs.Theorems.{fixed}
 use Rattle.report.specs.declared.Reset.{Reset}
 use Rattle.report.specs.declared.Reset.the-variants as reset
 use Rattle.report.specs.declared.Sending.{Sending}
@@ -125,4 +126,4 @@ report-told-injective r q e = sym (report-back r) ∙ ap reportAt e ∙ report-b
 -- ---- Determinacy: the promise of `report_told` leaves one answer
 
 pub report-told-determined : (report : Report) {r q : List ℕ} → r ≡ reportTold report → q ≡ reportTold report → r ≡ q
-report-told-determined report h k = h ∙ sym k
+report-told-determined report = fixed
