@@ -11,7 +11,7 @@ use lib.ListN.{length}
 use Rattle.refusals.specs.Pick.{pick}
 use Rattle.frame.specs.Frame.{frameOf}
 use Rattle.refusals.proofs.Picks.{through-by}
-use Rattle.rules.specs.Rules.{base}
+use Rattle.rules.specs.Rules.{rulesOf}
 use Rattle.job.specs.Job.{isOpen}
 use Rattle.job.specs.declared.job.Asking.the-variants.{Plain, Asks}
 use Rattle.report.specs.Told.{reportTold}
@@ -75,12 +75,12 @@ module _ {l : Link} {line up : List ℕ} {r : Answered} {line′ up′ : List �
       (through-by f (isOpen (l .core .job)) refl
       (through-by f (ltb 252 (length ps)) refl refl))
 
-  pub byte-told : (b : ℕ) → CallPromise Passes (byteOut base l b) l line up r line′ up′
-      → answerTold (r .answer) ≡ pick (lacksRoom (length line) (length up)) (1 ∷ []) (0 ∷ reportTold (outReport (byteOut base l b)))
+  pub byte-told : (b : ℕ) → CallPromise Passes (byteOut (rulesOf (l .core .choice)) l b) l line up r line′ up′
+      → answerTold (r .answer) ≡ pick (lacksRoom (length line) (length up)) (1 ∷ []) (0 ∷ reportTold (outReport (byteOut (rulesOf (l .core .choice)) l b)))
   byte-told b c = call-told c
 
-  pub tick-told : CallPromise Passes (tickOut base l) l line up r line′ up′
-      → answerTold (r .answer) ≡ pick (lacksRoom (length line) (length up)) (1 ∷ []) (0 ∷ reportTold (outReport (tickOut base l)))
+  pub tick-told : CallPromise Passes (tickOut (rulesOf (l .core .choice)) l) l line up r line′ up′
+      → answerTold (r .answer) ≡ pick (lacksRoom (length line) (length up)) (1 ∷ []) (0 ∷ reportTold (outReport (tickOut (rulesOf (l .core .choice)) l)))
   tick-told c = call-told c
 
   pub restart-told : CallPromise Passes (restartOut l) l line up r line′ up′
@@ -88,10 +88,10 @@ module _ {l : Link} {line up : List ℕ} {r : Answered} {line′ up′ : List �
   restart-told c = call-told c
 
 -- a run of bytes also tells how many were taken
-pub run-told : {l : Link} (bytes : List ℕ) {line up : List ℕ} {r : Ran} {line′ up′ : List ℕ} → RunPromise (runOut base l bytes) l line up r line′ up′
+pub run-told : {l : Link} (bytes : List ℕ) {line up : List ℕ} {r : Ran} {line′ up′ : List ℕ} → RunPromise (runOut (rulesOf (l .core .choice)) l bytes) l line up r line′ up′
     → runTold (r .answer)
     ≡ pick (lacksRoom (length line) (length up)) (1 ∷ [])
-    (0 ∷ (reportTold (outReport (runOut base l bytes .out)) ++ (runOut base l bytes .taken ∷ [])))
+    (0 ∷ (reportTold (outReport (runOut (rulesOf (l .core .choice)) l bytes .out)) ++ (runOut (rulesOf (l .core .choice)) l bytes .taken ∷ [])))
 run-told {l} bytes {line} {up} c =
     ap (λ (a : Ran). runTold (a .answer)) (c .answer)
-    ∙ through-by (λ (k : Checked). runTold (ran k (runOut base l bytes) l .answer)) (lacksRoom (length line) (length up)) refl refl
+    ∙ through-by (λ (k : Checked). runTold (ran k (runOut (rulesOf (l .core .choice)) l bytes) l .answer)) (lacksRoom (length line) (length up)) refl refl

@@ -1,8 +1,9 @@
--- Section 5: opening gives a fresh link (an array is the list of its bytes), and the timings are the link's own.
+-- Section 5: opening gives a fresh link, of what was chosen (an array is the list of its bytes), and the timings are the link's own.
 -- Assumes nothing.
 use Prim.Native.Nat.{ℕ}
 use mathlib.Core.List.{List}
 use lib.ListN.{replicate}
+use Rattle.rules.specs.declared.Choice.{Choice}
 use Rattle.step.specs.Core.{freshCore}
 use Rattle.units.specs.declared.Millis.{Millis}
 use Rattle.link.specs.declared.link.Link.{Link}
@@ -15,8 +16,8 @@ noBody = replicate MAX_BODY 0
 unfoldable pub noFrame : List ℕ
 noFrame = replicate MAX_FRAME 0
 
-abbrev pub freshLink : Link
-freshLink = record { core = freshCore; body = noBody; frame = noFrame }
+abbrev pub freshLink : Choice → Link
+freshLink c = record { core = freshCore c; body = noBody; frame = noFrame }
 
 -- Times are milliseconds.
 abbrev pub millis : ℕ → Millis

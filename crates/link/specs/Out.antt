@@ -11,7 +11,8 @@ use Rattle.hearing.specs.Hearing.{hearByte, hearTick, keep, isHunting}
 use Rattle.job.specs.Job.{still}
 use Rattle.writing.specs.Writing.{lineBytes}
 use Rattle.report.specs.Report.{newsReception, newsSending, newsSession, newsReset}
-use Rattle.link.specs.Link.{freshLink}
+use Rattle.link.specs.Link.{noBody, noFrame}
+use Rattle.rules.specs.declared.Choice.{Choice}
 use Rattle.hearing.specs.declared.hearing.Heard.{Heard}
 use Rattle.hearing.specs.declared.hearing.Hearing.{Hearing}
 use Rattle.hearing.specs.declared.hearing.Hearing.the-variants.{Hunting}
@@ -49,15 +50,15 @@ outReport o =
       up = length (o .up);
     }
 
--- the numbers of the next link: what was decided, beside hearing and the held frame's length
-abbrev pub coreOf : Outcome → Hearing → ℕ → Core
-coreOf o h size = record { hearing = h; job = o .job; bad = o .bad; size = size }
+-- the numbers of the next link: what was decided, beside hearing, the held frame's length and what the link was opened as
+abbrev pub coreOf : Outcome → Hearing → ℕ → Choice → Core
+coreOf o h size c = record { hearing = h; job = o .job; bad = o .bad; size = size; choice = c }
 
--- what goes out: 06 or 15, then the copy; the body's first bytes are handed up
-abbrev pub out : List ℕ → List ℕ → Hearing → ℕ → Outcome → Out
-out body frame h size o =
+-- what goes out: 06, 15 or 18, then the copy; the body's first bytes are handed up
+abbrev pub out : List ℕ → List ℕ → Hearing → ℕ → Choice → Outcome → Out
+out body frame h size c o =
     record {
-      link = record { core = coreOf o h size; body = body; frame = frame };
+      link = record { core = coreOf o h size c; body = body; frame = frame };
       reception = o .reception;
       sending = o .sending;
       session = o .session;
@@ -68,7 +69,7 @@ out body frame h size o =
 
 -- a byte or a tick, heard as h, on a link of these numbers and arrays
 abbrev pub heardOut : Rules → Core → List ℕ → List ℕ → Heard → Out
-heardOut R k body frame h = out body frame (h .hearing) (k .size) (decide R (k .size) (h .event) (k .job) (k .bad))
+heardOut R k body frame h = out body frame (h .hearing) (k .size) (k .choice) (decide R (k .size) (h .event) (k .job) (k .bad))
 
 abbrev pub byteBy : Rules → Link → ℕ → Heard → Out
 byteBy R l b h = heardOut R (l .core) (keep (h .event) b (l .body)) (l .frame) h
@@ -81,10 +82,11 @@ tickOut R l = heardOut R (l .core) (l .body) (l .frame) (hearTick (l .core .hear
 
 -- The frame is held in the link.
 unfoldable pub openOut : Link → Asking → List ℕ → Out
-openOut l a f = out (l .body) (over f (l .frame)) (l .core .hearing) (length f) (opening (isHunting (l .core .hearing)) a (l .core .bad))
+openOut l a f = out (l .body) (over f (l .frame)) (l .core .hearing) (length f) (l .core .choice) (opening (isHunting (l .core .hearing)) a (l .core .bad))
 
+-- Restart makes the link fresh; it stays what it was opened as.
 unfoldable pub restartOut : Link → Out
-restartOut l = out (freshLink .body) (freshLink .frame) Hunting 0 (restarting (l .core .job))
+restartOut l = out noBody noFrame Hunting 0 (l .core .choice) (restarting (l .core .job))
 
 -- A report that is more than "nothing" or "skipped".
 abbrev pub news : Out → Bool
@@ -96,7 +98,7 @@ news o =
 
 -- a call that does nothing and reports nothing
 abbrev pub quiet : Link → Out
-quiet l = out (l .body) (l .frame) (l .core .hearing) (l .core .size) (acted reception.Nothing (l .core .bad) (still (l .core .job)))
+quiet l = out (l .body) (l .frame) (l .core .hearing) (l .core .size) (l .core .choice) (acted reception.Nothing (l .core .bad) (still (l .core .job)))
 
 pub record Taken : Type 0 where
   pub out : Out

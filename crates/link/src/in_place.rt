@@ -42,7 +42,7 @@ ghost use lib.ListN.{length};
 ghost use Rattle.frame.specs.Frame.{frameOf, REQ, RES, MAX_PARAMETERS, LINE_ROOM};
 ghost use Rattle.hearing.specs.declared.hearing.Hearing.the-variants as hearing;
 ghost use Rattle.job.specs.declared.job.Asking.the-variants.{Plain, Asks};
-ghost use Rattle.rules.specs.Rules.{base};
+ghost use Rattle.rules.specs.Rules.{rulesOf};
 ghost use Rattle.step.specs.Checks.{sendOwn, sessionOwn};
 ghost use Rattle.step.specs.declared.checks.Checked.the-variants.{Passes};
 ghost use Rattle.link.specs.declared.calls.Answer.the-variants as answer;
@@ -74,13 +74,14 @@ fn refused_in(unchanged: Core, refusal: Refusal) -> AnsweredIn
 // A body byte, which most are: it is kept, hearing alone goes on, and there is nothing to say.
 fn body_in(core: Core, p: Partial, body: &mut [u8; MAX_BODY], b: u8) -> AnsweredIn
     requires { ⌜ (core .hearing ≡ hearing.Body p) × (p .at < p .size) ⌝ }
-    ensures { λ r. ⌜ ((frame line : List ℕ) → Emitted (byteOut base (linkOf core (now (body .entry)) frame) b) line (putTogether r (now (body .exit)) frame) line) ⌝ }
+    ensures { λ r. ⌜ ((frame line : List ℕ) → Emitted (byteOut (rulesOf (core .choice)) (linkOf core (now (body .entry)) frame) b) line (putTogether r (now (body .exit)) frame) line) ⌝ }
 {
     sized(body);
     let heard = followed(p, b);
     let hearing = heard.hearing;
     let kept = heard.event;
     let job = core.job;
+    let choice = core.choice;
     keep(body, kept, b);
     let nothing = Report {
         reception: Reception::Nothing,
@@ -95,6 +96,7 @@ fn body_in(core: Core, p: Partial, body: &mut [u8; MAX_BODY], b: u8) -> Answered
         job: job,
         bad: core.bad,
         size: core.size,
+        choice: choice,
     };
     AnsweredIn {
         core: next,
@@ -111,7 +113,7 @@ pub fn byte_in(
     line: &mut [u8],
     up: &mut [u8],
 ) -> AnsweredIn
-    ensures { λ r. ⌜ CallPromise Passes (byteOut base (linkOf core (now (body .entry)) (now (frame .entry))) b) (linkOf core (now (body .entry)) (now (frame .entry))) (now (line .entry)) (now (up .entry)) (putTogether r (now (body .exit)) (now (frame .entry))) (now (line .exit)) (now (up .exit)) ⌝ }
+    ensures { λ r. ⌜ CallPromise Passes (byteOut (rulesOf (core .choice)) (linkOf core (now (body .entry)) (now (frame .entry))) b) (linkOf core (now (body .entry)) (now (frame .entry))) (now (line .entry)) (now (up .entry)) (putTogether r (now (body .exit)) (now (frame .entry))) (now (line .exit)) (now (up .exit)) ⌝ }
 {
     if lacks_room(line.len(), up.len()) {
         return refused_in(core, Refusal::Room);
@@ -126,15 +128,16 @@ pub fn byte_in(
     sized(frame);
     let before = core.hearing;
     let job = core.job;
+    let choice = core.choice;
     let heard = hear_byte(before, b);
     let hearing = heard.hearing;
     let event = heard.event;
-    let outcome = decide(job, core.bad, core.size, event);
+    let outcome = decide(choice, job, core.bad, core.size, event);
     keep(body, event, b);
     let n = line_out(outcome, core.size, frame, line);
     let k = up_out(outcome.up, body, up);
     let report = report_of(outcome, n, k);
-    let next = core_of(outcome, hearing, core.size);
+    let next = core_of(outcome, hearing, core.size, choice);
     AnsweredIn {
         core: next,
         answer: Answer::Done(report),
@@ -150,7 +153,7 @@ pub fn bytes_in(
     line: &mut [u8],
     up: &mut [u8],
 ) -> RanIn
-    ensures { λ r. ⌜ RunPromise (runOut base (linkOf core (now (body .entry)) (now (frame .entry))) (now (bytes .entry))) (linkOf core (now (body .entry)) (now (frame .entry))) (now (line .entry)) (now (up .entry)) (ranPutTogether r (now (body .exit)) (now (frame .entry))) (now (line .exit)) (now (up .exit)) ⌝ }
+    ensures { λ r. ⌜ RunPromise (runOut (rulesOf (core .choice)) (linkOf core (now (body .entry)) (now (frame .entry))) (now (bytes .entry))) (linkOf core (now (body .entry)) (now (frame .entry))) (now (line .entry)) (now (up .entry)) (ranPutTogether r (now (body .exit)) (now (frame .entry))) (now (line .exit)) (now (up .exit)) ⌝ }
 {
     if lacks_room(line.len(), up.len()) {
         return RanIn {
@@ -162,14 +165,15 @@ pub fn bytes_in(
     sized(frame);
     let before = core.hearing;
     let job = core.job;
+    let choice = core.choice;
     let reach = hear_run(before, bytes, body);
     let hearing = reach.hearing;
     let event = reach.event;
-    let last = decide(job, core.bad, core.size, event);
+    let last = decide(choice, job, core.bad, core.size, event);
     let n = line_out(last, core.size, frame, line);
     let k = up_out(last.up, body, up);
     let report = report_of(last, n, k);
-    let next = core_of(last, hearing, core.size);
+    let next = core_of(last, hearing, core.size, choice);
     RanIn {
         core: next,
         answer: RunAnswer::Done(report, reach.taken),
@@ -178,18 +182,19 @@ pub fn bytes_in(
 
 // One tick: a millisecond has passed. The body, whatever it is, stays.
 pub fn tick_in(core: Core, frame: &[u8; MAX_FRAME], line: &mut [u8], up: &mut [u8]) -> AnsweredIn
-    ensures { λ r. ⌜ ((body : List ℕ) → CallPromise Passes (tickOut base (linkOf core body (now (frame .entry)))) (linkOf core body (now (frame .entry))) (now (line .entry)) (now (up .entry)) (putTogether r body (now (frame .entry))) (now (line .exit)) (now (up .exit))) ⌝ }
+    ensures { λ r. ⌜ ((body : List ℕ) → CallPromise Passes (tickOut (rulesOf (core .choice)) (linkOf core body (now (frame .entry)))) (linkOf core body (now (frame .entry))) (now (line .entry)) (now (up .entry)) (putTogether r body (now (frame .entry))) (now (line .exit)) (now (up .exit))) ⌝ }
 {
     if lacks_room(line.len(), up.len()) {
         return refused_in(core, Refusal::Room);
     }
     let before = core.hearing;
     let job = core.job;
+    let choice = core.choice;
     let heard = hear_tick(before);
     let hearing = heard.hearing;
     let event = heard.event;
-    let outcome = decide_tick(job, core.bad, core.size, event);
-    emit(outcome, hearing, core.size, frame, line)
+    let outcome = decide_tick(choice, job, core.bad, core.size, event);
+    emit(outcome, hearing, core.size, choice, frame, line)
 }
 
 // An accepted send or session: the frame is built into the held one.
@@ -207,10 +212,11 @@ fn open_in(
 {
     sized(frame);
     let hearing = core.hearing;
+    let choice = core.choice;
     let size = (parameters.len() + 5) as u16;
     frame::build(kind, command, parameters, frame);
     let outcome = opening(is_hunting(hearing), asking, core.bad);
-    emit(outcome, hearing, size, frame, line)
+    emit(outcome, hearing, size, choice, frame, line)
 }
 
 // Sends a frame of this type, command and parameters.
@@ -253,7 +259,7 @@ pub fn session_in(
     }
 }
 
-// A fresh link; 15 is put out, and an open send or session is abandoned.
+// A fresh link, opened as it was; 15 is put out, and an open send or session is abandoned.
 pub fn restart_in(
     core: Core,
     body: &mut [u8; MAX_BODY],
@@ -267,8 +273,9 @@ pub fn restart_in(
         return refused_in(core, Refusal::Room);
     }
     let job = core.job;
+    let choice = core.choice;
     *body = [0; MAX_BODY];
     *frame = [0; MAX_FRAME];
     let outcome = restarting(job);
-    emit(outcome, Hearing::Hunting, 0, frame, line)
+    emit(outcome, Hearing::Hunting, 0, choice, frame, line)
 }

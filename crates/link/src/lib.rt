@@ -1,4 +1,4 @@
-// The host end of the link (document 01, sections 3 to 7): bytes and ticks go in, bytes and reports come out.
+// The host end of the link and the stand-in for its other end (document 01, sections 3 to 7): bytes and ticks go in, bytes and reports come out.
 mod calls;
 mod emit;
 mod in_place;

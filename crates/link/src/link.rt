@@ -3,9 +3,11 @@ use frame::MAX_BODY;
 use frame::MAX_FRAME;
 use hearing::Hearing;
 use job::Job;
+use rules::Choice;
 use step::Core;
 use units::Millis;
 ghost use mathlib.Core.Path.{_≡_};
+ghost use Rattle.rules.specs.Rules.{usual};
 ghost use Rattle.link.specs.Link.{freshLink, timings};
 
 // A link comes only from opening or an earlier call: no other crate can make one.
@@ -41,11 +43,19 @@ impl Link {
 
     pub const BACK_OFF_3: Millis = Job::BACK_OFF_3;
 
-    // Opening: a fresh link, and nothing is put out.
+    // Opening: a fresh link, and nothing is put out. Without a choice it is the host.
     pub fn open() -> Self
-        ensures { λ r. ⌜ r ≡ freshLink ⌝ }
+        ensures { λ r. ⌜ r ≡ freshLink usual ⌝ }
     {
-        let core = Core::fresh();
+        let choice = Choice::usual();
+        Link::open_as(choice)
+    }
+
+    // Opening with a choice, which the link keeps from then on.
+    pub fn open_as(choice: Choice) -> Self
+        ensures { λ r. ⌜ r ≡ freshLink choice ⌝ }
+    {
+        let core = Core::fresh(choice);
         Link {
             core: core,
             body: [0; MAX_BODY],

@@ -7,6 +7,7 @@ use mathlib.Core.Path.{_≡_}
 use mathlib.Core.Bool.{Bool}
 use Prim.Native.Nat.{ℕ}
 use Rattle.refusals.proofs.Theorems.{fixed}
+use Rattle.rules.specs.declared.Role.{Role}
 use Rattle.hearing.specs.declared.hearing.Event.{Event}
 use Rattle.reception.specs.declared.said.Awaited.{Awaited}
 use Rattle.reception.specs.declared.said.Said.{Said}
@@ -17,8 +18,8 @@ use Rattle.reception.specs.Sums.{sumsOn}
 pub is-awaited-determined : (command : ℕ) (w : Awaited) {r q : Bool} → r ≡ isAwaited command w → q ≡ isAwaited command w → r ≡ q
 is-awaited-determined command w = fixed
 
-pub said-on-determined : (e : Event) (w : Awaited) {r q : Said} → r ≡ saidOn e w → q ≡ saidOn e w → r ≡ q
-said-on-determined e w = fixed
+pub said-on-determined : (role : Role) (e : Event) (w : Awaited) {r q : Said} → r ≡ saidOn role e w → q ≡ saidOn role e w → r ≡ q
+said-on-determined role e w = fixed
 
 pub sums-on-determined : (e : Event) (bad : ℕ) {r q : Sums} → r ≡ sumsOn e bad → q ≡ sumsOn e bad → r ≡ q
 sums-on-determined e bad = fixed

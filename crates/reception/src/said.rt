@@ -2,12 +2,15 @@
 use hearing::End;
 use hearing::Event;
 use report::Reception;
+use rules::Role;
 ghost use mathlib.Core.Path.{_≡_};
 ghost use Rattle.reception.specs.Said as spec;
 
 // What the open send or session waits to receive, as far as reception has to know it.
 pub enum Awaited {
     Nothing,
+    // The ACK of a copy.
+    Ack,
     // A response with this command.
     Response { command: u8 },
 }
@@ -17,6 +20,7 @@ pub enum Reply {
     Silent,
     Ack,
     Nak,
+    Can,
 }
 
 // What reception has to say of an event.
@@ -33,6 +37,7 @@ pub fn is_awaited(command: u8, awaited: Awaited) -> bool
 {
     match awaited {
         Awaited::Nothing => false,
+        Awaited::Ack => false,
         Awaited::Response { command: wanted } => command == wanted,
     }
 }
@@ -47,35 +52,61 @@ fn saying(reception: Reception, reply: Reply, up: u8) -> Said
     }
 }
 
-// A response is handed up like any frame; one that is not awaited is marked stray.
-fn said_response(size: u8, command: u8, awaited: Awaited) -> Said
-    ensures { λ r. ⌜ r ≡ spec.saidResponse size command awaited ⌝ }
+// Whether a frame of Type 00 or 01 is cancelled: by a stand-in, while it waits for an ACK.
+fn cancels(role: Role, awaited: Awaited) -> bool
+    ensures { λ r. ⌜ r ≡ spec.cancels role awaited ⌝ }
 {
-    if is_awaited(command, awaited) {
-        return saying(Reception::Frame, Reply::Ack, size);
+    if let Role::Host = role {
+        return false;
     }
-    saying(Reception::StrayResponse, Reply::Ack, size)
+    match awaited {
+        Awaited::Nothing => false,
+        Awaited::Ack => true,
+        Awaited::Response { command: _ } => false,
+    }
 }
 
-fn said_end(end: End, awaited: Awaited) -> Said
-    ensures { λ r. ⌜ r ≡ spec.saidEnd end awaited ⌝ }
+// A frame of Type 00 or 01 is answered and handed up, or cancelled and dropped.
+fn said_frame(cancelled: bool, reception: Reception, size: u8) -> Said
+    ensures { λ r. ⌜ r ≡ spec.saidFrame cancelled reception size ⌝ }
+{
+    if cancelled {
+        return saying(Reception::Cancelled, Reply::Can, 0);
+    }
+    saying(reception, Reply::Ack, size)
+}
+
+// A response is handed up like any frame; one that is not awaited is marked stray.
+fn response_as(command: u8, awaited: Awaited) -> Reception
+    ensures { λ r. ⌜ r ≡ spec.responseAs command awaited ⌝ }
+{
+    if is_awaited(command, awaited) {
+        return Reception::Frame;
+    }
+    Reception::StrayResponse
+}
+
+fn said_end(role: Role, end: End, awaited: Awaited) -> Said
+    ensures { λ r. ⌜ r ≡ spec.saidEnd role end awaited ⌝ }
 {
     match end {
         End::BadLength => saying(Reception::BadLength, Reply::Silent, 0),
         End::BadSum => saying(Reception::BadSum, Reply::Nak, 0),
         End::Reserved => saying(Reception::Reserved, Reply::Ack, 0),
-        End::Request { size } => saying(Reception::Frame, Reply::Ack, size),
-        End::Response { size, command } => said_response(size, command, awaited),
+        End::Request { size } => said_frame(cancels(role, awaited), Reception::Frame, size),
+        End::Response { size, command } => {
+            said_frame(cancels(role, awaited), response_as(command, awaited), size)
+        }
     }
 }
 
 // What reception says of an event, the byte that it puts out, and how much it hands up.
-pub fn said_on(event: Event, awaited: Awaited) -> Said
-    ensures { λ r. ⌜ r ≡ spec.saidOn event awaited ⌝ }
+pub fn said_on(role: Role, event: Event, awaited: Awaited) -> Said
+    ensures { λ r. ⌜ r ≡ spec.saidOn role event awaited ⌝ }
 {
     match event {
         Event::Skipped => saying(Reception::Skipped, Reply::Silent, 0),
-        Event::Ended(end) => said_end(end, awaited),
+        Event::Ended(end) => said_end(role, end, awaited),
         Event::Aborted => saying(Reception::Abort, Reply::Silent, 0),
         _ => saying(Reception::Nothing, Reply::Silent, 0),
     }

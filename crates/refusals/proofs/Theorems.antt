@@ -1,12 +1,13 @@
 -- What holds of the refusals, and the one law of determinacy that every crate cites.
 --     fixed                a promise that is an equation fixes its answer
 --     number-determined    `number_of`
---     numbers              1 to 11, in the order of document 01; number-place, number-injective: each has its own
+--     numbers              each has the number that document 01 prints; number-place, number-injective: each has its own
 -- Assumes nothing.
 use mathlib.Core.Path.{_≡_, refl, sym, ap, _∙_}
 use mathlib.Core.List.{List, [], _∷_, map}
-use Prim.Native.Nat.{ℕ, _-_}
-use lib.ListN.{getD}
+use Prim.Native.Nat.{ℕ}
+use lib.Dec.{eqb}
+use Rattle.refusals.specs.Pick.{pick}
 use Rattle.refusals.specs.declared.Refusal.{Refusal}
 use Rattle.refusals.specs.declared.Refusal.the-variants.{Room, Busy, Kind, Long, Short, Start, Length, Tail, Sum, Form, Range}
 use Rattle.refusals.specs.Refusals.{numberOf}
@@ -18,16 +19,34 @@ fixed e f = e ∙ sym f
 pub number-determined : (k : Refusal) {r q : ℕ} → r ≡ numberOf k → q ≡ numberOf k → r ≡ q
 number-determined k = fixed
 
--- Section 3: the refusals in the order of their numbers
-abbrev pub eleven : List Refusal
-eleven = Room ∷ Busy ∷ Kind ∷ Long ∷ Short ∷ Start ∷ Length ∷ Tail ∷ Sum ∷ Form ∷ Range ∷ []
+-- Section 3: each refusal beside its number. A number is not used again, not even that of a refusal that retires, so there may be gaps;
+-- and the order is that of the numbers.
+abbrev pub numbered : List (Refusal × ℕ)
+numbered =
+    (Room, 1)
+    ∷ (Busy, 2)
+    ∷ (Kind, 3)
+    ∷ (Long, 4)
+    ∷ (Short, 5)
+    ∷ (Start, 6)
+    ∷ (Length, 7)
+    ∷ (Tail, 8)
+    ∷ (Sum, 9)
+    ∷ (Form, 10)
+    ∷ (Range, 11)
+    ∷ []
 
--- they are numbered from 1 to 11
-pub numbers : map numberOf eleven ≡ 1 ∷ 2 ∷ 3 ∷ 4 ∷ 5 ∷ 6 ∷ 7 ∷ 8 ∷ 9 ∷ 10 ∷ 11 ∷ []
+-- they are numbered so
+pub numbers : map (λ (p : Refusal × ℕ). numberOf (p .0)) numbered ≡ map (λ (p : Refusal × ℕ). p .1) numbered
 numbers = refl
 
--- each stands at its number among the eleven
-pub number-place : (k : Refusal) → getD eleven (numberOf k - 1) Room ≡ k
+-- the refusal that the list has beside a number
+abbrev refusalBy : List (Refusal × ℕ) → ℕ → Refusal
+refusalBy [] n = Room
+refusalBy (p ∷ ps) n = pick (eqb n (p .1)) (p .0) (refusalBy ps n)
+
+-- each refusal stands there, beside its number
+pub number-place : (k : Refusal) → refusalBy numbered (numberOf k) ≡ k
 number-place Room = refl
 number-place Busy = refl
 number-place Kind = refl
@@ -42,4 +61,4 @@ number-place Range = refl
 
 -- so no two have the same
 pub number-injective : (k l : Refusal) → numberOf k ≡ numberOf l → k ≡ l
-number-injective k l e = sym (number-place k) ∙ ap (λ (i : ℕ). getD eleven (i - 1) Room) e ∙ number-place l
+number-injective k l e = sym (number-place k) ∙ ap (refusalBy numbered) e ∙ number-place l

@@ -31,6 +31,7 @@ receptionAt i =
     ∷ reception.BadSum
     ∷ reception.Abort
     ∷ reception.StrayResponse
+    ∷ reception.Cancelled
     ∷ [])
     i
     reception.Nothing
@@ -89,6 +90,7 @@ reception-back reception.Reserved = refl
 reception-back reception.BadSum = refl
 reception-back reception.Abort = refl
 reception-back reception.StrayResponse = refl
+reception-back reception.Cancelled = refl
 
 sending-back : (s : Sending) → sendingAt (sendingCase s) (sendingValue s) ≡ s
 sending-back sending.Nothing = refl

@@ -19,6 +19,7 @@ newsReception reception.Reserved = true
 newsReception reception.BadSum = true
 newsReception reception.Abort = true
 newsReception reception.StrayResponse = true
+newsReception reception.Cancelled = true
 
 abbrev pub newsSending : Sending → Bool
 newsSending sending.Nothing = false

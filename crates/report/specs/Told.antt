@@ -12,7 +12,7 @@ use Rattle.report.specs.declared.Reception.{Reception}
 use Rattle.report.specs.declared.Reception.the-variants as reception
 use Rattle.report.specs.declared.Report.{Report}
 
--- Reception: nothing, skipped, the ends of section 4, stray response.
+-- Reception: nothing, skipped, the ends of section 4, stray response; and cancelled, which a stand-in says in their place.
 abbrev pub receptionCase : Reception → ℕ
 receptionCase reception.Nothing = 0
 receptionCase reception.Skipped = 1
@@ -22,6 +22,7 @@ receptionCase reception.Reserved = 4
 receptionCase reception.BadSum = 5
 receptionCase reception.Abort = 6
 receptionCase reception.StrayResponse = 7
+receptionCase reception.Cancelled = 8
 
 -- Sending: nothing, stray, due, copy put out (its number), backing off (ticks), acknowledged or failed (copies), abandoned.
 abbrev pub sendingCase : Sending → ℕ

@@ -14,6 +14,8 @@ pub enum Reception {
     BadSum,
     Abort,
     StrayResponse,
+    // Of a stand-in, in place of frame and stray response.
+    Cancelled,
 }
 
 pub enum Sending {

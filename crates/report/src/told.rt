@@ -19,6 +19,7 @@ fn reception_case(part: Reception) -> u64
         Reception::BadSum => 5,
         Reception::Abort => 6,
         Reception::StrayResponse => 7,
+        Reception::Cancelled => 8,
     }
 }
 

@@ -1,9 +1,15 @@
--- What document 01 fixes as numbers and later requests vary: the rules of sending (section 5).
+-- What document 01 fixes and later requests vary: what a link is opened as, and the rules of sending (section 5).
 -- The definitions that depend on them take them as a parameter.
 -- Assumes nothing.
 use Prim.Native.Nat.{ℕ}
 use lib.Dec.{eqb}
 use Rattle.refusals.specs.Pick.{pick}
+use Rattle.rules.specs.declared.Role.the-variants.{Host}
+use Rattle.rules.specs.declared.Choice.{Choice}
+
+-- a link opened without a choice is the host
+abbrev pub usual : Choice
+usual = record { role = Host }
 
 -- why a copy is given up: 15 or 18 came, or its wait ran out
 pub data Cause : Type 0 where
@@ -11,6 +17,8 @@ pub data Cause : Type 0 where
   time : Cause
 
 pub record Rules : Type 0 where
+  -- what the link was opened as
+  pub choice : Choice
   -- how many ticks a copy waits for its ACK, by the frame's length
   pub wait : ℕ → ℕ
   -- how many ticks the sender backs off, by the cause and the number of copies
@@ -20,6 +28,11 @@ pub record Rules : Type 0 where
 abbrev pub backOffs : ℕ → ℕ
 backOffs n = pick (eqb n 1) 100 (pick (eqb n 2) 1100 2100)
 
--- document 01's rules: the same wait for every frame, the same back-offs for both causes
+-- The rules of a link that was opened so. Document 01 has the same wait for every frame, and the same back-offs for both causes;
+-- the stand-in sends by them too.
+abbrev pub rulesOf : Choice → Rules
+rulesOf c = record { choice = c; wait = λ size. 1600; back = λ cause n. backOffs n }
+
+-- document 01's rules: those of the host
 abbrev pub base : Rules
-base = record { wait = λ size. 1600; back = λ cause n. backOffs n }
+base = rulesOf usual

@@ -1,2 +1,25 @@
-// No code: the rules, what document 01 fixes as numbers and later requests vary (section 5). The definitions that depend
-// on them take them as a parameter.
+// The rules: what document 01 fixes and later requests vary. What a link is opened as is chosen here; the numbers of sending
+// (section 5) are definitions alone, which the other crates' definitions take as a parameter.
+ghost use mathlib.Core.Path.{_≡_};
+ghost use Rattle.rules.specs.Rules.{usual};
+
+// Which end of the line a link is: the host, or the stand-in for a module.
+pub enum Role {
+    Host,
+    Module,
+}
+
+// What opening chooses, and every call keeps; a restart too.
+pub struct Choice {
+    pub role: Role,
+}
+
+impl Choice {
+    // That of a link opened without a choice: the host.
+    pub fn usual() -> Self
+        ensures { λ r. ⌜ r ≡ usual ⌝ }
+    {
+        let role = Role::Host;
+        Choice { role: role }
+    }
+}

@@ -48,13 +48,13 @@ none-due (Waiting a n e) o = refl
 none-due (BackingOff a n l) o = refl
 none-due (Awaiting c n e) o = refl
 
--- no session is behind its ACK: nothing is awaited
-pub none-awaited : (j : Job) → OneOf (0 ∷ 1 ∷ 2 ∷ 3 ∷ []) (tagOf job j) → awaited.Nothing ≡ awaitedBy j
+-- no copy waits and no session is behind its ACK: nothing is awaited
+pub none-awaited : (j : Job) → OneOf (0 ∷ 1 ∷ 3 ∷ []) (tagOf job j) → awaited.Nothing ≡ awaitedBy j
 none-awaited Idle o = refl
 none-awaited (Due a n) o = refl
-none-awaited (Waiting a n e) o = refl
+none-awaited (Waiting a n e) o = absurd (miss (0 ∷ 1 ∷ 3 ∷ []) 2 tt o)
 none-awaited (BackingOff a n l) o = refl
-none-awaited (Awaiting c n e) o = absurd (miss (0 ∷ 1 ∷ 2 ∷ 3 ∷ []) 4 tt o)
+none-awaited (Awaiting c n e) o = absurd (miss (0 ∷ 1 ∷ 3 ∷ []) 4 tt o)
 
 -- no response: an end like the rest
 pub no-response : (e : End) (j : Job) → OneOf (0 ∷ 1 ∷ 2 ∷ 3 ∷ []) (tagOf end e) → release j ≡ onEnd e j

@@ -54,11 +54,11 @@ release (Waiting a n e) = still (Waiting a n e)
 release (BackingOff a n l) = still (BackingOff a n l)
 release (Awaiting c n e) = still (Awaiting c n e)
 
--- A session stays open after its ACK and waits for a RES with the same Command.
+-- A copy waits for its ACK. A session stays open after it and waits for a RES with the same Command.
 abbrev pub awaitedBy : Job → Awaited
 awaitedBy Idle = awaited.Nothing
 awaitedBy (Due a n) = awaited.Nothing
-awaitedBy (Waiting a n e) = awaited.Nothing
+awaitedBy (Waiting a n e) = awaited.Ack
 awaitedBy (BackingOff a n l) = awaited.Nothing
 awaitedBy (Awaiting c n e) = awaited.Response c
 

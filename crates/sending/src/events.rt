@@ -72,18 +72,19 @@ fn release(job: Job) -> Act
     goes_on(job, Sending::Nothing)
 }
 
-// What the open send or session waits to receive: a session, behind its ACK, the response to its command.
+// What the open send or session waits to receive: a copy its ACK; a session, behind that, the response to its command.
 pub fn awaited_by(job: Job) -> Awaited
     ensures { λ r. ⌜ r ≡ spec.awaitedBy job ⌝ }
 {
-    if let Job::Awaiting {
-        command,
-        copies: _,
-        elapsed: _,
-    } = job {
-        return Awaited::Response { command: command };
+    match job {
+        Job::Waiting { .. } => Awaited::Ack,
+        Job::Awaiting {
+            command,
+            copies: _,
+            elapsed: _,
+        } => Awaited::Response { command: command },
+        _ => Awaited::Nothing,
     }
-    Awaited::Nothing
 }
 
 // Whether a response with this command is the one that an open session awaits.

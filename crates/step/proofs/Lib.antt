@@ -1,3 +1,4 @@
 pub mod Aside
+mod Choices
 pub mod Passed
 pub mod Theorems

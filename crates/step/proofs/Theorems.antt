@@ -13,7 +13,8 @@ use Rattle.refusals.proofs.Theorems.{fixed}
 use Rattle.hearing.specs.declared.hearing.Event.{Event}
 use Rattle.job.specs.declared.job.Asking.{Asking}
 use Rattle.job.specs.declared.job.Job.{Job}
-use Rattle.rules.specs.Rules.{base}
+use Rattle.rules.specs.Rules.{rulesOf}
+use Rattle.rules.specs.declared.Choice.{Choice}
 use Rattle.report.specs.declared.Reset.{Reset}
 use Rattle.step.specs.declared.checks.Checked.{Checked}
 use Rattle.step.specs.declared.core.Core.{Core}
@@ -34,16 +35,16 @@ pub session-checks-determined : (line up : ℕ) (j : Job) (n : ℕ) {r q : Check
     → r ≡ sessionChecks line up j n → q ≡ sessionChecks line up j n → r ≡ q
 session-checks-determined line up j n = fixed
 
-pub fresh-determined : {r q : Core} → r ≡ freshCore → q ≡ freshCore → r ≡ q
-fresh-determined = fixed
+pub fresh-determined : (c : Choice) {r q : Core} → r ≡ freshCore c → q ≡ freshCore c → r ≡ q
+fresh-determined c = fixed
 
-pub decide-determined : (j : Job) (bad size : ℕ) (e : Event) {r q : Outcome}
-    → r ≡ decide base size e j bad → q ≡ decide base size e j bad → r ≡ q
-decide-determined j bad size e = fixed
+pub decide-determined : (c : Choice) (j : Job) (bad size : ℕ) (e : Event) {r q : Outcome}
+    → r ≡ decide (rulesOf c) size e j bad → q ≡ decide (rulesOf c) size e j bad → r ≡ q
+decide-determined c j bad size e = fixed
 
-pub decide-tick-determined : (j : Job) (bad size : ℕ) (e : Event) {r q : Outcome}
-    → r ≡ decide base size e j bad → q ≡ decide base size e j bad → r ≡ q
-decide-tick-determined j bad size e = fixed
+pub decide-tick-determined : (c : Choice) (j : Job) (bad size : ℕ) (e : Event) {r q : Outcome}
+    → r ≡ decide (rulesOf c) size e j bad → q ≡ decide (rulesOf c) size e j bad → r ≡ q
+decide-tick-determined c j bad size e = fixed
 
 pub either-determined : (sums sender : Reset) {r q : Reset} → r ≡ either sums sender → q ≡ either sums sender → r ≡ q
 either-determined sums sender = fixed

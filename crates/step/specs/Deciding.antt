@@ -44,7 +44,7 @@ decided q z a =
 
 -- what an event decides, for a job and a run of bad sums: reception first, then the sender and the session
 abbrev pub decide : Rules → ℕ → Event → Job → ℕ → Outcome
-decide R size e j bad = decided (saidOn e (awaitedBy j)) (sumsOn e bad) (onEvent R size e j)
+decide R size e j bad = decided (saidOn (R .choice .role) e (awaitedBy j)) (sumsOn e bad) (onEvent R size e j)
 
 -- an act with which reception has this much to say, and no byte of its own
 abbrev pub acted : Reception → ℕ → Act → Outcome

@@ -1,6 +1,7 @@
 // The numbers of a link: all of it but the half-received body and the held frame.
 use hearing::Hearing;
 use job::Job;
+use rules::Choice;
 ghost use mathlib.Core.Path.{_≡_};
 ghost use Rattle.step.specs.Core.{freshCore};
 
@@ -11,18 +12,21 @@ pub struct Core {
     pub bad: u8,
     // The length of the held frame.
     pub size: u16,
+    // What the link was opened as.
+    pub choice: Choice,
 }
 
 impl Core {
-    // Those of a fresh link (section 5).
-    pub fn fresh() -> Self
-        ensures { λ r. ⌜ r ≡ freshCore ⌝ }
+    // Those of a fresh link (section 5), opened with this choice.
+    pub fn fresh(choice: Choice) -> Self
+        ensures { λ r. ⌜ r ≡ freshCore choice ⌝ }
     {
         Core {
             hearing: Hearing::Hunting,
             job: Job::Idle,
             bad: 0,
             size: 0,
+            choice: choice,
         }
     }
 }

@@ -17,13 +17,15 @@ use report::Reception;
 use report::Reset;
 use report::Sending;
 use report::Session;
+use rules::Choice;
+use rules::Role;
 use sending::awaited_by;
 use sending::on_event;
 use sending::on_restart;
 ghost use mathlib.Core.Path.{_≡_};
 ghost use mathlib.Core.Bool.{false};
 ghost use Prim.Native.Nat.{ℕ};
-ghost use Rattle.rules.specs.Rules.{base};
+ghost use Rattle.rules.specs.Rules.{rulesOf};
 ghost use Rattle.step.specs.Contracts as ways;
 ghost use Rattle.step.specs.Deciding as spec;
 
@@ -78,11 +80,12 @@ fn decided(said: Said, sums: Sums, act: Act) -> Outcome
 }
 
 // Reception first, then the sender and the session.
-fn decide_open(job: Job, bad: u8, size: u16, event: Event) -> Outcome
-    ensures { λ r. ⌜ r ≡ spec.decide base size event job bad ⌝ }
+fn decide_open(choice: Choice, job: Job, bad: u8, size: u16, event: Event) -> Outcome
+    ensures { λ r. ⌜ r ≡ spec.decide (rulesOf choice) size event job bad ⌝ }
 {
+    let role = choice.role;
     let awaited = awaited_by(job);
-    let said = said_on(event, awaited);
+    let said = said_on(role, event, awaited);
     let sums = sums_on(event, bad);
     let act = on_event(size, event, job);
     decided(said, sums, act)
@@ -98,25 +101,36 @@ fn is_waiting(job: Job) -> bool
     false
 }
 
-// The end of a frame matters to a due copy, which then goes out, and to a session that awaits its response.
-fn heeds_ends(job: Job) -> bool
-    ensures { λ r. ⌜ r ≡ ways.heedsEnds job ⌝ }
+fn is_module(role: Role) -> bool
+    ensures { λ r. ⌜ r ≡ ways.isModule role ⌝ }
+{
+    match role {
+        Role::Host => false,
+        Role::Module => true,
+    }
+}
+
+// The end of a frame matters to a due copy, which then goes out, and to a session that awaits its response. And a stand-in cancels
+// a frame while it waits for an ACK.
+fn heeds_ends(role: Role, job: Job) -> bool
+    ensures { λ r. ⌜ r ≡ ways.heedsEnds role job ⌝ }
 {
     match job {
         Job::Due { .. } => true,
+        Job::Waiting { .. } => is_module(role),
         Job::Awaiting { .. } => true,
         _ => false,
     }
 }
 
-// Whether an event may do something to this job: a tick or an abort to any.
-fn concerns(event: Event, job: Job) -> bool
-    ensures { λ r. ⌜ r ≡ ways.concerns event job ⌝ }
+// Whether an event may do something to this job, or the job has a say in it: a tick or an abort concerns any.
+fn concerns(role: Role, event: Event, job: Job) -> bool
+    ensures { λ r. ⌜ r ≡ ways.concerns role event job ⌝ }
 {
     match event {
         Event::Inside | Event::Kept { at: _ } | Event::Skipped => false,
         Event::Alone(_) => is_waiting(job),
-        Event::Ended(_) => heeds_ends(job),
+        Event::Ended(_) => heeds_ends(role, job),
         _ => true,
     }
 }
@@ -132,10 +146,11 @@ fn stray_on(event: Event) -> Sending
 }
 
 // The same for an event that does not concern the job: short, and what a byte or a run of bytes mostly meets.
-fn decide_aside(job: Job, bad: u8, event: Event) -> Outcome
-    ensures { λ r. ⌜ (ways.concerns event job ≡ false → (size : ℕ) → r ≡ spec.decide base size event job bad) ⌝ }
+fn decide_aside(choice: Choice, job: Job, bad: u8, event: Event) -> Outcome
+    ensures { λ r. ⌜ (ways.concerns (choice .role) event job ≡ false → (size : ℕ) → r ≡ spec.decide (rulesOf choice) size event job bad) ⌝ }
 {
-    let said = said_on(event, Awaited::Nothing);
+    let role = choice.role;
+    let said = said_on(role, event, Awaited::Nothing);
     let sums = sums_on(event, bad);
     let sending = stray_on(event);
     let reception = said.reception;
@@ -179,14 +194,15 @@ fn anew(outcome: Outcome) -> Outcome
 }
 
 // What an event decides, by whether it concerns the job.
-pub fn decide(job: Job, bad: u8, size: u16, event: Event) -> Outcome
-    ensures { λ r. ⌜ r ≡ spec.decide base size event job bad ⌝ }
+pub fn decide(choice: Choice, job: Job, bad: u8, size: u16, event: Event) -> Outcome
+    ensures { λ r. ⌜ r ≡ spec.decide (rulesOf choice) size event job bad ⌝ }
 {
-    if concerns(event, job) {
-        let open = decide_open(job, bad, size, event);
+    let role = choice.role;
+    if concerns(role, event, job) {
+        let open = decide_open(choice, job, bad, size, event);
         return anew(open);
     }
-    decide_aside(job, bad, event)
+    decide_aside(choice, job, bad, event)
 }
 
 // An act beside which reception says this, and puts out no byte.
@@ -206,14 +222,14 @@ fn acted(reception: Reception, bad: u8, act: Act) -> Outcome
 }
 
 // A tick, by what it was to hearing. (Hearing a tick gives no event of a byte.)
-pub fn decide_tick(job: Job, bad: u8, size: u16, event: Event) -> Outcome
-    ensures { λ r. ⌜ r ≡ spec.decide base size event job bad ⌝ }
+pub fn decide_tick(choice: Choice, job: Job, bad: u8, size: u16, event: Event) -> Outcome
+    ensures { λ r. ⌜ r ≡ spec.decide (rulesOf choice) size event job bad ⌝ }
 {
     match event {
         Event::TickHunting => acted(Reception::Nothing, bad, on_tick(size, true, job)),
         Event::TickInside => acted(Reception::Nothing, bad, on_tick(size, false, job)),
         Event::Aborted => acted(Reception::Abort, bad, on_abort(size, job)),
-        _ => decide_open(job, bad, size, event),
+        _ => decide_open(choice, job, bad, size, event),
     }
 }
 

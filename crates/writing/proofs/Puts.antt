@@ -12,7 +12,7 @@ use Rattle.frame.specs.Bytes.{over}
 use Rattle.frame.specs.Contracts.{Lay}
 use Rattle.frame.proofs.Over.{over-length, put-bytes, take-min, laid-in}
 use Rattle.reception.specs.declared.said.Reply.{Reply}
-use Rattle.reception.specs.declared.said.Reply.the-variants.{Silent, Ack, Nak}
+use Rattle.reception.specs.declared.said.Reply.the-variants.{Silent, Ack, Nak, Can}
 use Rattle.reception.specs.Said.{replyBytes}
 use Rattle.writing.specs.Writing.{lineBytes}
 use Rattle.writing.specs.Contracts.{Put, byteFits, PutLine, PutUp}
@@ -21,6 +21,7 @@ pub reply-short : (r : Reply) → length (replyBytes r) ≤ 1
 reply-short Silent = omega arith
 reply-short Ack = omega arith
 reply-short Nak = omega arith
+reply-short Can = omega arith
 
 -- the first bytes of src, laid right behind bs
 pub put-behind : (bs src lent : List ℕ) (size n at : ℕ) {lent₁ lent₂ : List ℕ} {r : Bool}

@@ -1,5 +1,6 @@
 // The only writer of lent buffers: what a step puts on the line and hands up.
 use frame::ACK;
+use frame::CAN;
 use frame::MAX_FRAME;
 use frame::NAK;
 use reception::Reply;
@@ -21,6 +22,10 @@ pub fn put_reply(reply: Reply, line: &mut [u8]) -> u16
         }
         Reply::Nak => {
             line[0] = NAK;
+            1
+        }
+        Reply::Can => {
+            line[0] = CAN;
             1
         }
     }

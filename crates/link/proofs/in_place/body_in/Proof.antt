@@ -21,9 +21,9 @@ keep-requires c κs = search needs
 returns : tie.Need-returns
 unfolding byteOut
 returns c frame line =
-    let st = c .before .before .before .before .before .before in
-    let k = c .keep .ensures (c .before .before .before .before .sized-arg2 .given .0) in
-    let h = c .before .before .followed .ensures in
+    let st = c .before .before .before .before .before .before .before in
+    let k = c .keep .ensures (c .before .before .before .before .before .sized-arg2 .given .0) in
+    let h = c .before .before .before .followed .ensures in
     let i = lt-ltb _ _ (st .pre .1) in
     record { answer = simp (st .pre .0, k, h, i); line-left = simp (st .pre .0, i); none-up = simp (st .pre .0, i) }
 

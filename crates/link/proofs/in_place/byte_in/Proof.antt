@@ -3,7 +3,7 @@
 use mathlib.Core.Path.{refl, sym, _∙_}
 use lib.ListN.{length}
 use denote.Ref.{now}
-use Rattle.rules.specs.Rules.{base}
+use Rattle.rules.specs.Rules.{rulesOf}
 use Rattle.hearing.specs.Hearing.{keep}
 use Rattle.hearing.proofs.Theorems.{keep-length}
 use Rattle.step.specs.declared.checks.Checked.the-variants.{Passes}
@@ -27,7 +27,7 @@ returns c =
     let l = linkOf (a .core) (now (a .body)) (now (a .frame)) in
     let line = now (a .line) in
     let up = now (a .up) in
-    refuse-in Passes (byteOut base l (a .b)) (a .core) (now (a .body)) (now (a .frame)) line up (short line up Passes (sym (c .before .before .lacks-room .ensures) ∙ c .before .if1 .taken))
+    refuse-in Passes (byteOut (rulesOf (a .core .choice)) l (a .b)) (a .core) (now (a .body)) (now (a .frame)) line up (short line up Passes (sym (c .before .before .lacks-room .ensures) ∙ c .before .if1 .taken))
     (c .refused-in .ensures)
 
 enum-known-inside : tie.Need-enum-known-inside
@@ -44,7 +44,7 @@ returns-2 c =
     let l = linkOf (a .core) (now (a .body)) (now (a .frame)) in
     let line = now (a .line) in
     let up = now (a .up) in
-    accept Passes (byteOut base l (a .b)) l line up (roomy line up Passes (sym (at-lacks-room .lacks-room .ensures) ∙ at-if1 .if1 .left)) refl
+    accept Passes (byteOut (rulesOf (a .core .choice)) l (a .b)) l line up (roomy line up Passes (sym (at-lacks-room .lacks-room .ensures) ∙ at-if1 .if1 .left)) refl
     (c .body-in .ensures (now (a .frame)) line)
 
 sized-requires : tie.Need-sized-requires
@@ -88,7 +88,7 @@ returns-3 c =
     let at-keep = at-line-out .before .before in
     let at-decide = at-keep .before .before in
     let at-hear-byte = at-decide .before in
-    let at-frame = at-hear-byte .before .before in
+    let at-frame = at-hear-byte .before .before .before in
     let at-body = at-frame .before .before in
     let at-if1 = at-body .before .before .before in
     let at-lacks-room = at-if1 .before in
@@ -109,7 +109,7 @@ returns-3 c =
     let m = o .count frame (at-frame .sized-arg3 .given .0) in
     let n = p .count (keep e (a .b) body) (keep-length e (a .b) body ∙ s) in
     let l = linkOf (a .core) body frame in
-    give Passes (byteOut base l (a .b)) l line up (roomy line up Passes r)
+    give Passes (byteOut (rulesOf (a .core .choice)) l (a .b)) l line up (roomy line up Passes r)
     (simp (c .core-of .ensures, c .before .report-of .ensures, m, n, k, d, h))
     (o .left ∙ simp (d, h)) (p .left ∙ simp (k, d, h))
 

@@ -3,7 +3,7 @@
 use mathlib.Core.Path.{sym, ap, _∙_}
 use lib.ListN.{length}
 use denote.Ref.{now}
-use Rattle.rules.specs.Rules.{base}
+use Rattle.rules.specs.Rules.{rulesOf}
 use Rattle.frame.specs.Bytes.{over}
 use Rattle.run.specs.Contracts.{Far, unheard}
 use Rattle.step.specs.declared.checks.Checked.the-variants.{Passes}
@@ -30,7 +30,7 @@ returns c =
     let l = linkOf (a .core) (now (a .body)) (now (a .frame)) in
     let line = now (a .line) in
     let up = now (a .up) in
-    refuse-run (runOut base l (now (a .bytes))) l line up (short line up Passes (sym (c .before .lacks-room .ensures) ∙ c .if1 .taken))
+    refuse-run (runOut (rulesOf (a .core .choice)) l (now (a .bytes))) l line up (short line up Passes (sym (c .before .lacks-room .ensures) ∙ c .if1 .taken))
 
 sized-requires : tie.Need-sized-requires
 sized-requires c κs = search needs
@@ -68,7 +68,7 @@ returns-2 c =
     let at-line-out = at-up-out .before .before .before .before .before in
     let at-decide = at-line-out .before .before in
     let at-hear-run = at-decide .before in
-    let at-frame = at-hear-run .before .before .before in
+    let at-frame = at-hear-run .before .before .before .before in
     let at-body = at-frame .before .before in
     let at-if1 = at-body .before .before in
     let at-lacks-room = at-if1 .before in
@@ -79,6 +79,7 @@ returns-2 c =
     let up = now (a .up) in
     let bytes = now (a .bytes) in
     let l = linkOf (a .core) body frame in
+    let R = rulesOf (a .core .choice) in
     let s = at-body .sized-arg2 .given .0 in
     let r = sym (at-lacks-room .lacks-room .ensures) ∙ at-if1 .if1 .left in
     let w = has-room (length line) (length up) r in
@@ -88,12 +89,12 @@ returns-2 c =
     let p = at-up-out .up-out .ensures (w .1) in
     let m = o .count frame (at-frame .sized-arg3 .given .0) in
     let n = up-count p (ap (λ (f : Far). f .body) h) (hear-length (unheard (a .core .hearing) body) bytes ∙ s) in
-    let t = sym (runs base l bytes) in
-    give-run (runOut base l bytes) l line up (roomy line up Passes r)
+    let t = sym (runs R l bytes) in
+    give-run (runOut R l bytes) l line up (roomy line up Passes r)
     (simp (c .core-of .ensures, c .before .report-of .ensures, m, n, d)
-    (ap (λ (f : Far). answer-of (reached base l f)) h ∙ ap answer-of t))
-    (o .left ∙ simp d (ap (λ (f : Far). over (reached base l f .out .line) line) h ∙ ap (λ (q : Taken). over (q .out .line) line) t))
-    (p .left ∙ simp d (ap (λ (f : Far). over (reached base l f .out .up) up) h ∙ ap (λ (q : Taken). over (q .out .up) up) t))
+    (ap (λ (f : Far). answer-of (reached R l f)) h ∙ ap answer-of t))
+    (o .left ∙ simp d (ap (λ (f : Far). over (reached R l f .out .line) line) h ∙ ap (λ (q : Taken). over (q .out .line) line) t))
+    (p .left ∙ simp d (ap (λ (f : Far). over (reached R l f .out .up) up) h ∙ ap (λ (q : Taken). over (q .out .up) up) t))
 
 pub bytes-in-spec : {M : Type 1} → statement M
 bytes-in-spec =

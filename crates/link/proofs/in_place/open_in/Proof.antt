@@ -29,7 +29,7 @@ opening-requires : tie.Need-opening-requires
 opening-requires c κs = search needs
 
 emit-requires : tie.Need-emit-requires
-emit-requires c κs = (c .before .before .before .before .before .before .before .before .before .before .before .pre .0, simp (c .before .before .opening .ensures))
+emit-requires c κs = (c .before .before .before .before .before .before .before .before .before .before .before .before .pre .0, simp (c .before .before .opening .ensures))
 
 same-length : tie.Need-same-length
 same-length c = search needs
@@ -40,7 +40,7 @@ returns c body =
     let at-opening = c .before .before .before .before .before in
     let at-is-hunting = at-opening .before in
     let at-build = at-is-hunting .before in
-    let at-sized = at-build .before .before .before in
+    let at-sized = at-build .before .before .before .before in
     let st = at-sized .before .before .before .before in
     let a = st .args in
     let ps = now (a .parameters) in

@@ -33,10 +33,10 @@ restarting-requires c κs = search needs
 
 emit-requires : tie.Need-emit-requires
 emit-requires c κs =
-    let a = c .before .before .before .before .before .before .before .before .before .args in
+    let a = c .before .before .before .before .before .before .before .before .before .before .args in
     let line = now (a .line) in
     let up = now (a .up) in
-    (has-room (length line) (length up) (sym (c .before .before .before .before .before .before .lacks-room .ensures) ∙ c .before .before .before .before .before .if1 .left) .0, simp (c .before .before .restarting .ensures))
+    (has-room (length line) (length up) (sym (c .before .before .before .before .before .before .before .lacks-room .ensures) ∙ c .before .before .before .before .before .before .if1 .left) .0, simp (c .before .before .restarting .ensures))
 
 same-length : tie.Need-same-length
 same-length c = search needs
@@ -45,7 +45,7 @@ returns-2 : tie.Need-returns-2
 unfolding restartOut noBody noFrame
 returns-2 c =
     let at-restarting = c .before .before .before .before .before in
-    let at-if1 = at-restarting .before .before .before in
+    let at-if1 = at-restarting .before .before .before .before in
     let at-lacks-room = at-if1 .before in
     let a = at-lacks-room .before .before .before .args in
     let l = linkOf (a .core) (now (a .body)) (now (a .frame)) in

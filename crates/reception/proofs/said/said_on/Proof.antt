@@ -8,6 +8,7 @@ use mathlib.Core.Path.{_≡_, refl}
 use Rattle.hearing.specs.declared.hearing.Event.{Event}
 use Rattle.hearing.specs.declared.hearing.Event.the-variants.{Inside, Kept, Skipped, Alone, Ended, TickHunting, TickInside, Aborted}
 use Rattle.hearing.proofs.hearing.Event.{the-type}
+use Rattle.rules.specs.declared.Role.{Role}
 use Rattle.reception.specs.declared.said.Awaited.{Awaited}
 use Rattle.report.specs.declared.Reception.the-variants as reception
 use Rattle.reception.specs.declared.said.Reply.the-variants.{Silent}
@@ -20,15 +21,15 @@ use Rattle.reception.proofs.said.said_on.Tie as tie
 abbrev others : List ℕ
 others = 0 ∷ 1 ∷ 3 ∷ 5 ∷ 6 ∷ []
 
-silent : (x : Event) (w : Awaited) → OneOf others (tagOf the-type x) → saidOn x w ≡ saying reception.Nothing Silent 0
-silent Inside w m = refl
-silent (Kept at) w m = refl
-silent Skipped w m = absurd (miss others 2 tt m)
-silent (Alone s) w m = refl
-silent (Ended e) w m = absurd (miss others 4 tt m)
-silent TickHunting w m = refl
-silent TickInside w m = refl
-silent Aborted w m = absurd (miss others 7 tt m)
+silent : (role : Role) (x : Event) (w : Awaited) → OneOf others (tagOf the-type x) → saidOn role x w ≡ saying reception.Nothing Silent 0
+silent role Inside w m = refl
+silent role (Kept at) w m = refl
+silent role Skipped w m = absurd (miss others 2 tt m)
+silent role (Alone s) w m = refl
+silent role (Ended e) w m = absurd (miss others 4 tt m)
+silent role TickHunting w m = refl
+silent role TickInside w m = refl
+silent role Aborted w m = absurd (miss others 7 tt m)
 
 enum-told : tie.Need-enum-told
 enum-told c = search needs
@@ -63,7 +64,7 @@ returns-3 c = simp (c .before .enum-told2 .given .1, c .saying2 .ensures)
 returns-4 : tie.Need-returns-4
 returns-4 c =
     let a = c .before .before .args in
-    simp (silent (a .event) (a .awaited) (c .before .match .keys4), c .saying3 .ensures)
+    simp (silent (a .role) (a .event) (a .awaited) (c .before .match .keys4), c .saying3 .ensures)
 
 pub said-on-spec : {M : Type 1} → statement M
 said-on-spec =

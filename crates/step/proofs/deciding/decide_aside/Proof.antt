@@ -1,6 +1,6 @@
 -- `step::deciding::decide_aside` meets its contract.
 -- Assumes nothing.
-use Rattle.rules.specs.Rules.{base}
+use Rattle.rules.specs.Rules.{rulesOf}
 use Rattle.reception.specs.Sums.{sumsOn}
 use Rattle.step.proofs.Aside.{either-none, act-aside, said-aside}
 use borrow.Author.Needs.{needs}
@@ -19,7 +19,7 @@ stray-on-requires c κs = search needs
 returns : tie.Need-returns
 returns c h size =
     let a = c .before .before .before .args in
-    simp (act-aside base size (a .event) (a .job) h, said-aside (a .event) (a .job) h, c .stray-on .ensures, c .before .sums-on .ensures, c .before .before .said-on .ensures, either-none (sumsOn (a .event) (a .bad) .reset))
+    simp (act-aside (rulesOf (a .choice)) (a .choice .role) size (a .event) (a .job) h, said-aside (a .choice .role) (a .event) (a .job) h, c .stray-on .ensures, c .before .sums-on .ensures, c .before .before .said-on .ensures, either-none (sumsOn (a .event) (a .bad) .reset))
 
 pub decide-aside-spec : {M : Type 1} → statement M
 decide-aside-spec = tie.close (tie.spec said-on-requires sums-on-requires stray-on-requires returns)

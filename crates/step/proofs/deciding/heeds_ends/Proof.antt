@@ -6,6 +6,7 @@ use mathlib.Core.List.{List, [], _∷_}
 use Prim.Native.Nat.{ℕ}
 use mathlib.Core.Path.{_≡_, refl}
 use mathlib.Core.Bool.{false}
+use Rattle.rules.specs.declared.Role.{Role}
 use Rattle.job.specs.declared.job.Job.{Job}
 use Rattle.job.specs.declared.job.Job.the-variants.{Idle, Due, Waiting, BackingOff, Awaiting}
 use Rattle.job.proofs.job.Job.{the-type}
@@ -14,22 +15,28 @@ use borrow.Author.Needs.{needs}
 use Rattle.step.proofs.deciding.heeds_ends.Statement.{statement}
 use Rattle.step.proofs.deciding.heeds_ends.Tie as tie
 
--- in these no copy is due, and no response awaited
+-- in these no copy is due, and nothing awaited
 abbrev others : List ℕ
-others = 0 ∷ 2 ∷ 3 ∷ []
+others = 0 ∷ 3 ∷ []
 
-no-heed : (x : Job) → OneOf others (tagOf the-type x) → false ≡ heedsEnds x
-no-heed Idle m = refl
-no-heed (Due a n) m = absurd (miss others 1 tt m)
-no-heed (Waiting a n e) m = refl
-no-heed (BackingOff a n l) m = refl
-no-heed (Awaiting c n e) m = absurd (miss others 4 tt m)
+no-heed : (role : Role) (x : Job) → OneOf others (tagOf the-type x) → false ≡ heedsEnds role x
+no-heed role Idle m = refl
+no-heed role (Due a n) m = absurd (miss others 1 tt m)
+no-heed role (Waiting a n e) m = absurd (miss others 2 tt m)
+no-heed role (BackingOff a n l) m = refl
+no-heed role (Awaiting c n e) m = absurd (miss others 4 tt m)
 
 enum-told : tie.Need-enum-told
 enum-told c = search needs
 
 enum-told-2 : tie.Need-enum-told-2
 enum-told-2 c = search needs
+
+is-module-requires : tie.Need-is-module-requires
+is-module-requires c κs = search needs
+
+enum-told-3 : tie.Need-enum-told-3
+enum-told-3 c = search needs
 
 returns : tie.Need-returns
 returns c = search needs
@@ -38,7 +45,22 @@ returns-2 : tie.Need-returns-2
 returns-2 c = search needs
 
 returns-3 : tie.Need-returns-3
-returns-3 c = no-heed (c .before .args .job) (c .match .keys3)
+returns-3 c = search needs
+
+returns-4 : tie.Need-returns-4
+returns-4 c =
+    let a = c .before .args in
+    no-heed (a .role) (a .job) (c .match .keys4)
 
 pub heeds-ends-spec : {M : Type 1} → statement M
-heeds-ends-spec = tie.close (tie.spec enum-told enum-told-2 returns returns-2 returns-3)
+heeds-ends-spec =
+    tie.close
+    (tie.spec
+    enum-told
+    enum-told-2
+    is-module-requires
+    enum-told-3
+    returns
+    returns-2
+    returns-3
+    returns-4)

@@ -27,6 +27,12 @@ enum-told-3 c = search needs
 slice-write-line-2 : tie.Need-slice-write-line-2
 slice-write-line-2 c = search needs
 
+enum-told-4 : tie.Need-enum-told-4
+enum-told-4 c = search needs
+
+slice-write-line-3 : tie.Need-slice-write-line-3
+slice-write-line-3 c = search needs
+
 returns-2 : tie.Need-returns-2
 returns-2 c = record { put = simp (c .enum-told .given .1, le-ltb _ _ (c .before .before .if1 .left)) (record { count = refl; left = refl }) }
 
@@ -50,6 +56,16 @@ returns-4 c =
       put = simp (c .enum-told3 .given .1, le-ltb _ _ (c .before .before .if1 .left)) (record { count = refl; left = over-one (now (a .line)) 21 (omega (arith, c .before .before .if1 .left)) });
     }
 
+same-length-3 : tie.Need-same-length-3
+same-length-3 c = search needs
+
+returns-5 : tie.Need-returns-5
+returns-5 c =
+    let a = c .before .before .before .args in
+    record {
+      put = simp (c .enum-told4 .given .1, le-ltb _ _ (c .before .before .if1 .left)) (record { count = refl; left = over-one (now (a .line)) 24 (omega (arith, c .before .before .if1 .left)) });
+    }
+
 pub put-reply-spec : {M : Type 1} → statement M
 put-reply-spec =
     tie.close
@@ -60,8 +76,12 @@ put-reply-spec =
     slice-write-line
     enum-told-3
     slice-write-line-2
+    enum-told-4
+    slice-write-line-3
     returns-2
     same-length
     returns-3
     same-length-2
-    returns-4)
+    returns-4
+    same-length-3
+    returns-5)
