@@ -11,7 +11,7 @@ use lib.Seq.{take-at, take-nil, getD-at}
 use borrow.Author.Tests.{ltb-true, ltb-false, lt-ltb, le-ltb, eqb-true, eqb-false, eq-eqb, ne-eqb}
 use Rattle.refusals.specs.Pick.{pick}
 use Rattle.frame.specs.Bytes.{fold}
-use Rattle.frame.specs.Frame.{START, MAX_PARAMETERS, MIN_LENGTH, MAX_BODY, counted, checksum, frameOf}
+use Rattle.frame.specs.Frame.{START, ACK, CAN, MAX_PARAMETERS, MIN_LENGTH, MAX_BODY, counted, checksum, frameOf}
 use Rattle.refusals.specs.declared.Refusal.the-variants as refusal
 use Rattle.reading.specs.Reader.{read, measuredOf, parametersOf}
 use Rattle.reading.proofs.Theorems.{read-built}
@@ -37,13 +37,14 @@ use Rattle.job.specs.declared.job.Act.{Act}
 use Rattle.job.specs.declared.job.Job.{Job}
 use Rattle.job.specs.declared.job.Job.the-variants.{Idle, Due, Waiting, BackingOff, Awaiting}
 use Rattle.report.specs.declared.Reception.{Reception}
+use Rattle.report.specs.declared.Reception.the-variants as reception
 use Rattle.link.specs.declared.link.Link.{Link}
 use Rattle.history.specs.Perform.{What, byte, bytes, tick, send, session, restart, Call, checksOf, outOf, Done, refused, took, doneBy, perform}
 use Rattle.history.specs.History.{next, run, after, oneTick, oneRestart, accepted, ticksIn, restartsIn}
 use Rattle.history.specs.Received.{feed, takenBy, ifTaken, received}
 use Rattle.history.specs.Runs.{SameSender}
-use Rattle.history.specs.Section11.{endAnswer}
-use Rattle.history.specs.Whole.{Whole, short, full, fromFirst, clockIn, ComesWhole, dueCopy, Ending, EndsBy, AsRead, RunAsRead}
+use Rattle.history.specs.Section11.{cancelsNow, endAnswer}
+use Rattle.history.specs.Whole.{Whole, short, full, fromFirst, clockIn, ComesWhole, dueCopy, Ending, frameReport, FrameEnds, EndsBy, AsRead, RunAsRead}
 use Rattle.refusals.proofs.Picks.{pick-by, pick-ok}
 use Rattle.history.proofs.Histories.{accepted-is}
 use Rattle.hearing.proofs.Theorems.{keep-length}
@@ -349,15 +350,16 @@ end-copy end.Reserved j held = release-copy j held
 end-copy (end.Request size) j held = release-copy j held
 end-copy (end.Response size command) j held = response-copy size command j held
 
-ending : (R : Rules) (l : Link) (b : ℕ) (e : End) (up : List ℕ) → take ((saidEnd e (awaitedBy (l .core .job))) .up) (l .body) ≡ up
-    → Ending (l .core .job) (take (l .core .size) (l .frame)) ((saidEnd e (awaitedBy (l .core .job))) .reception) (endAnswer e) up (byteBy R l b (heard Hunting (Ended e)))
+ending : (R : Rules) (l : Link) (b : ℕ) (e : End) (up : List ℕ) → take ((saidEnd (R .choice .role) e (awaitedBy (l .core .job))) .up) (l .body) ≡ up
+    → Ending (l .core .job) (take (l .core .size) (l .frame)) ((saidEnd (R .choice .role) e (awaitedBy (l .core .job))) .reception) (endAnswer (cancelsNow R (l .core .job)) e) up
+    (byteBy R l b (heard Hunting (Ended e)))
 ending R l b e up u =
     let j = l .core .job in
     let held = take (l .core .size) (l .frame) in
     record {
       hunting = refl;
       reception = refl;
-      line = ap (λ (y : List ℕ). y ++ pick ((onEnd e j) .copy) held []) (end-reply e j) ∙ ap (λ (y : List ℕ). endAnswer e ++ y) (end-copy e j held);
+      line = ap (λ (y : List ℕ). y ++ pick ((onEnd e j) .copy) held []) (end-reply R e j) ∙ ap (λ (y : List ℕ). endAnswer (cancelsNow R j) e ++ y) (end-copy e j held);
       up = u;
     }
 
@@ -402,13 +404,20 @@ reads-full len b x y ps e =
 -- a right Checksum, by the Type
 abbrev RightEnds : Rules → Link → ℕ → ℕ → ℕ → ℕ → ℕ → List ℕ → Type 0
 RightEnds R l b clock len x y ps =
-    AsRead l (1 ∷ len ∷ x ∷ y ∷ (ps ++ (b ∷ []))) (readsAs x y (len - 3) true) (byteBy R l b (heard Hunting (Ended (ended (partialOf clock len (x ∷ y ∷ ps))))))
+    AsRead R l (1 ∷ len ∷ x ∷ y ∷ (ps ++ (b ∷ []))) (readsAs x y (len - 3) true) (byteBy R l b (heard Hunting (Ended (ended (partialOf clock len (x ∷ y ∷ ps))))))
 
 body-up : (d : List ℕ) (b len x y : ℕ) (ps : List ℕ) → len ≡ length ps + 3 → take (suc (suc (length ps))) d ≡ x ∷ y ∷ ps
     → take (len - 1) d ≡ x ∷ y ∷ parametersOf (1 ∷ len ∷ x ∷ y ∷ (ps ++ (b ∷ []))) (len - 3)
 body-up d b len x y ps e k =
     let n : len - 1 ≡ suc (suc (length ps)) = omega arith in
     ap (λ (i : ℕ). take i d) n ∙ k ∙ ap (λ (s : List ℕ). x ∷ y ∷ s) (sym (take-at ps (b ∷ []) (len - 3) (omega arith)))
+
+-- Type 00 or 01: handed up, or cancelled
+frame-ends : (x : Bool) (j : Job) (held : List ℕ) (kind command size : ℕ) (ps d : List ℕ) (o : Out) {r : Reception} → r ≡ frameReport kind command j → take size d ≡ kind ∷ command ∷ ps
+    → Ending j held (pick x reception.Cancelled r) (pick x (CAN ∷ []) (ACK ∷ [])) (take (pick x 0 size) d) o → FrameEnds x j held kind command ps o
+frame-ends true j held kind command size ps d o e u w = w
+frame-ends false j held kind command size ps d o e u w =
+    record { hunting = w .hunting; reception = w .reception ∙ e; line = w .line; up = w .up ∙ u }
 
 reserved-ends : (R : Rules) (l : Link) (b clock len x y : ℕ) (ps : List ℕ) → 2 ≤ x → RightEnds R l b clock len x y ps
 reserved-ends R l b clock len x y ps k =
@@ -419,68 +428,70 @@ reserved-ends R l b clock len x y ps k =
     let e : ended p ≡ end.Reserved =
     ap (λ (t : Bool). pick t (end.Request (len - 1)) (pick (eqb x 1) (end.Response (len - 1) y) end.Reserved)) (ne-eqb x 0 zeroth)
     ∙ ap (λ (t : Bool). pick t (end.Response (len - 1) y) end.Reserved) (ne-eqb x 1 first) in
-    subst (λ (t : Bool). AsRead l xs (pick t (Refused refusal.Kind) (Parts x y (len - 3))) (byteBy R l b (heard Hunting (Ended (ended p))))) (sym (lt-ltb 1 x k))
-    (subst (λ (z : End). AsRead l xs (Refused refusal.Kind) (byteBy R l b (heard Hunting (Ended z)))) (sym e) (ending R l b end.Reserved [] refl))
+    subst (λ (t : Bool). AsRead R l xs (pick t (Refused refusal.Kind) (Parts x y (len - 3))) (byteBy R l b (heard Hunting (Ended (ended p))))) (sym (lt-ltb 1 x k))
+    (subst (λ (z : End). AsRead R l xs (Refused refusal.Kind) (byteBy R l b (heard Hunting (Ended z)))) (sym e) (ending R l b end.Reserved [] refl))
 
 right-ends : (R : Rules) (l : Link) (b clock len x y : ℕ) (ps : List ℕ) → len ≡ length ps + 3 → take (suc (suc (length ps))) (l .body) ≡ x ∷ y ∷ ps
     → RightEnds R l b clock len x y ps
-right-ends R l b clock len zero y ps e k = ending R l b (end.Request (len - 1)) _ (body-up (l .body) b len 0 y ps e k)
-right-ends R l b clock len (suc zero) y ps e k = ending R l b (end.Response (len - 1) y) _ (body-up (l .body) b len 1 y ps e k)
+right-ends R l b clock len zero y ps e k =
+    frame-ends (cancelsNow R (l .core .job)) (l .core .job) _ 0 y (len - 1) _ (l .body) _ refl (body-up (l .body) b len 0 y ps e k) (ending R l b (end.Request (len - 1)) _ refl)
+right-ends R l b clock len (suc zero) y ps e k =
+    frame-ends (cancelsNow R (l .core .job)) (l .core .job) _ 1 y (len - 1) _ (l .body) _ refl (body-up (l .body) b len 1 y ps e k) (ending R l b (end.Response (len - 1) y) _ refl)
 right-ends R l b clock len (suc (suc x)) y ps e k = reserved-ends R l b clock len (suc (suc x)) y ps (omega arith)
 
 -- right or not
 sum-ends : (R : Rules) (l : Link) (b clock len x y : ℕ) (ps : List ℕ) (right : Bool) → len ≡ length ps + 3 → take (suc (suc (length ps))) (l .body) ≡ x ∷ y ∷ ps
-    → AsRead l (1 ∷ len ∷ x ∷ y ∷ (ps ++ (b ∷ []))) (readsAs x y (len - 3) right)
+    → AsRead R l (1 ∷ len ∷ x ∷ y ∷ (ps ++ (b ∷ []))) (readsAs x y (len - 3) right)
     (byteBy R l b (heard Hunting (Ended (pick right (ended (partialOf clock len (x ∷ y ∷ ps))) end.BadSum))))
 sum-ends R l b clock len x y ps true e k = right-ends R l b clock len x y ps e k
 sum-ends R l b clock len x y ps false e k = ending R l b end.BadSum [] refl
 
 full-ends : (R : Rules) (l : Link) (b clock len : ℕ) (bs : List ℕ) → l .core .hearing ≡ Body (partialOf clock len bs) → 3 ≤ len → length bs + 1 ≡ len
-    → take (length bs) (l .body) ≡ bs → AsRead l (1 ∷ len ∷ (bs ++ (b ∷ []))) (read (1 ∷ len ∷ (bs ++ (b ∷ [])))) (byteOut R l b)
+    → take (length bs) (l .body) ≡ bs → AsRead R l (1 ∷ len ∷ (bs ++ (b ∷ []))) (read (1 ∷ len ∷ (bs ++ (b ∷ [])))) (byteOut R l b)
 full-ends R l b clock len [] q k n d = absurd (omega arith)
 full-ends R l b clock len (x ∷ []) q k n d = absurd (omega arith)
 full-ends R l b clock len (x ∷ y ∷ ps) q k n d =
     let xs : List ℕ = 1 ∷ len ∷ x ∷ y ∷ (ps ++ (b ∷ [])) in
     let p = partialOf clock len (x ∷ y ∷ ps) in
     let e : len ≡ length ps + 3 = omega arith in
-    subst (λ (r : Reading). AsRead l xs r (byteOut R l b)) (sym (reads-full len b x y ps e))
-    (subst (AsRead l xs (readsAs x y (len - 3) (eqb b (p .sum)))) (sym (checked R l b p q (omega arith)))
+    subst (λ (r : Reading). AsRead R l xs r (byteOut R l b)) (sym (reads-full len b x y ps e))
+    (subst (AsRead R l xs (readsAs x y (len - 3) (eqb b (p .sum)))) (sym (checked R l b p q (omega arith)))
     (sum-ends R l b clock len x y ps (eqb b (p .sum)) e d))
 
-short-ends : (R : Rules) (l : Link) (b c : ℕ) → l .core .hearing ≡ Head c → b < 3 → AsRead l (1 ∷ b ∷ []) (read (1 ∷ b ∷ [])) (byteOut R l b)
+short-ends : (R : Rules) (l : Link) (b c : ℕ) → l .core .hearing ≡ Head c → b < 3 → AsRead R l (1 ∷ b ∷ []) (read (1 ∷ b ∷ [])) (byteOut R l b)
 short-ends R l b c q k =
     let o : byteOut R l b ≡ byteBy R l b (heard Hunting (Ended end.BadLength)) =
     byte-at R l b (Head c) q ∙ ap (λ (x : Bool). byteBy R l b (pick x (heard Hunting (Ended end.BadLength)) (heard (Body (begun c b)) Inside))) (lt-ltb b 3 k) in
-    subst (λ (r : Reading). AsRead l (1 ∷ b ∷ []) r (byteOut R l b)) (sym (reads-short b k))
-    (subst (AsRead l (1 ∷ b ∷ []) (Refused refusal.Length)) (sym o) (ending R l b end.BadLength [] refl))
+    subst (λ (r : Reading). AsRead R l (1 ∷ b ∷ []) r (byteOut R l b)) (sym (reads-short b k))
+    (subst (AsRead R l (1 ∷ b ∷ []) (Refused refusal.Length)) (sym o) (ending R l b end.BadLength [] refl))
 
 last-hears : (R : Rules) (xs : List ℕ) (t b : ℕ) (l : Link) (h : Hearing) → l .core .hearing ≡ h → Whole xs → StandsAt xs t (l .body) (b ∷ []) h
-    → AsRead l xs (read xs) (byteOut R l b)
+    → AsRead R l xs (read xs) (byteOut R l b)
 last-hears R xs t b l Hunting q w e = let v : length xs ≡ 1 = ap length e in let m : 1 < length xs = (starts xs w) .1 in absurd (omega arith)
 last-hears R xs t b l (Head c) q w e = by (measured xs [] b w (e .1))
   where
-    by : Measured b [] → AsRead l xs (read xs) (byteOut R l b)
-    by (small k n) = subst (λ (s : List ℕ). AsRead l s (read s) (byteOut R l b)) (sym (e .1)) (short-ends R l b c q k)
+    by : Measured b [] → AsRead R l xs (read xs) (byteOut R l b)
+    by (small k n) = subst (λ (s : List ℕ). AsRead R l s (read s) (byteOut R l b)) (sym (e .1)) (short-ends R l b c q k)
     by (large k m n) = absurd (omega arith)
 last-hears R xs t b l (Body p) q w e = by (measured xs (e .bs ++ (b ∷ [])) (e .len) w (e .came))
   where
-    by : Measured (e .len) (e .bs ++ (b ∷ [])) → AsRead l xs (read xs) (byteOut R l b)
+    by : Measured (e .len) (e .bs ++ (b ∷ [])) → AsRead R l xs (read xs) (byteOut R l b)
     by (small k n) = absurd (omega (arith, length-append (e .bs) (b ∷ [])))
     by (large k m n) =
-        subst (λ (s : List ℕ). AsRead l s (read s) (byteOut R l b)) (sym (e .came))
+        subst (λ (s : List ℕ). AsRead R l s (read s) (byteOut R l b)) (sym (e .came))
         (full-ends R l b (e .clock) (e .len) (e .bs) (q ∙ ap Body (e .is)) k (sym (length-append (e .bs) (b ∷ [])) ∙ n) (e .kept))
 
-last-byte : (R : Rules) (xs : List ℕ) (t b : ℕ) (l : Link) → Whole xs → Expects xs t (b ∷ []) l → AsRead l xs (read xs) (byteOut R l b)
+last-byte : (R : Rules) (xs : List ℕ) (t b : ℕ) (l : Link) → Whole xs → Expects xs t (b ∷ []) l → AsRead R l xs (read xs) (byteOut R l b)
 last-byte R xs t b l w e = last-hears R xs t b l (l .core .hearing) refl w (e .hears)
 
-same-sender : (l z : Link) → SameSender l z → (xs : List ℕ) (r : Reading) (o : Out) → AsRead z xs r o → AsRead l xs r o
-same-sender l z s xs r o a =
-    subst (λ (j : Job). EndsBy j (take (l .core .size) (l .frame)) xs r o) (s .job)
-    (subst (λ (held : List ℕ). EndsBy (z .core .job) held xs r o) (s .held) a)
+same-sender : (R : Rules) (l z : Link) → SameSender l z → (xs : List ℕ) (r : Reading) (o : Out) → AsRead R z xs r o → AsRead R l xs r o
+same-sender R l z s xs r o a =
+    subst (λ (j : Job). EndsBy (cancelsNow R j) j (take (l .core .size) (l .frame)) xs r o) (s .job)
+    (subst (λ (held : List ℕ). EndsBy (cancelsNow R (z .core .job)) (z .core .job) held xs r o) (s .held) a)
 
 -- ---- the call that takes the last byte: a run takes it with quiet bytes before it, which leave the sender as it was
 last-call : (R : Rules) (xs : List ℕ) (t : ℕ) (l : Link) (w : What) → Whole xs → 0 < length (takenBy R l w) → Expects xs t (takenBy R l w) l
-    → AsRead l xs (read xs) (outOf R l w)
+    → AsRead R l xs (read xs) (outOf R l w)
 last-call R xs t l (byte b) w n e = last-byte R xs t b l w e
 last-call R xs t l (bytes []) w n e =
     let none : List ℕ = [] in
@@ -492,8 +503,8 @@ last-call R xs t l (bytes (b ∷ bs)) w n e =
     let s = quiet-sender R (u .before) l (u .quiet) in
     let f : Expects xs t (u .last ∷ []) z =
     feed-expects R xs t (u .before) (u .last ∷ []) l w (omega arith) (subst (λ (y : List ℕ). Expects xs t y l) (taken-is R l (b ∷ bs) (runOut R l (b ∷ bs)) u) e) in
-    subst (AsRead l xs (read xs)) (sym (u .out))
-    (same-sender l z s xs (read xs) (byteOut R z (u .last)) (last-byte R xs t (u .last) z w f))
+    subst (AsRead R l xs (read xs)) (sym (u .out))
+    (same-sender R l z s xs (read xs) (byteOut R z (u .last)) (last-byte R xs t (u .last) z w f))
 last-call R xs t l tick w n e = absurd (omega arith)
 last-call R xs t l (send kind command ps) w n e = absurd (omega arith)
 last-call R xs t l (session command ps) w n e = absurd (omega arith)
@@ -501,66 +512,70 @@ last-call R xs t l restart w n e = absurd (omega arith)
 
 -- Bytes that come whole to a link that hunts end as bad length, bad sum, reserved or handed up, with the answer on the line, exactly as the frame reader reads them.
 pub received-as-read : (R : Rules) (l : Link) (k : List Call) (c : Call) (o : Out) (xs : List ℕ) → l .core .hearing ≡ Hunting → length (l .body) ≡ MAX_BODY
-    → ComesWhole R l k c xs → perform R (run R l k) c ≡ took o → AsRead (run R l k) xs (read xs) o
+    → ComesWhole R l k c xs → perform R (run R l k) c ≡ took o → AsRead R (run R l k) xs (read xs) o
 received-as-read R l k c o xs q r w p =
     let z = run R l k in
     let a = accepted-is (roomChecks (c .line) (c .up) (checksOf z (c .what))) (outOf R z (c .what)) o p in
-    subst (AsRead z xs (read xs)) (a .gave)
+    subst (AsRead R z xs (read xs)) (a .gave)
     (last-call R xs (clockIn R l k) z (c .what) (w .whole) (w .last)
     (all-expect R xs k (takenBy R z (c .what)) l (w .whole) (w .last) (w .restarts) (w .ticks) (w .bytes) (begins xs l q r)))
 
 -- and so after any history behind which the link hunts
 pub history-as-read : (R : Rules) (h k : List Call) (c : Call) (o : Out) (xs : List ℕ) → (after R h) .core .hearing ≡ Hunting
-    → ComesWhole R (after R h) k c xs → perform R (run R (after R h) k) c ≡ took o → AsRead (run R (after R h) k) xs (read xs) o
+    → ComesWhole R (after R h) k c xs → perform R (run R (after R h) k) c ≡ took o → AsRead R (run R (after R h) k) xs (read xs) o
 history-as-read R h k c o xs q w p = received-as-read R (after R h) k c o xs q (body-254 R h) w p
 
 -- ---- the same, given one by one
 pub fed-as-read : (R : Rules) (l : Link) (ys : List ℕ) (b : ℕ) → l .core .hearing ≡ Hunting → length (l .body) ≡ MAX_BODY → Whole (ys ++ (b ∷ []))
-    → AsRead l (ys ++ (b ∷ [])) (read (ys ++ (b ∷ []))) (byteOut R (feed R l ys) b)
+    → AsRead R l (ys ++ (b ∷ [])) (read (ys ++ (b ∷ []))) (byteOut R (feed R l ys) b)
 fed-as-read R l ys b q r w =
     let xs = ys ++ (b ∷ []) in
     let e = begins xs l q r in
-    same-sender l (feed R l ys) (feed-sender R xs 0 ys (b ∷ []) l w (omega arith) e) xs (read xs) (byteOut R (feed R l ys) b)
+    same-sender R l (feed R l ys) (feed-sender R xs 0 ys (b ∷ []) l w (omega arith) e) xs (read xs) (byteOut R (feed R l ys) b)
     (last-byte R xs 0 b (feed R l ys) w (feed-expects R xs 0 ys (b ∷ []) l w (omega arith) e))
 
 -- ---- and in one run, whatever stands behind them in it
 ending-news : {j : Job} {held answer up : List ℕ} {r : Reception} {o : Out} → Ending j held r answer up o → newsReception r ≡ true → news o ≡ true
 ending-news {o = o} e n = ap (λ (x : Bool). pick x true (pick (newsSending (o .sending)) true (pick (newsSession (o .session)) true (newsReset (o .reset))))) (ap newsReception (e .reception) ∙ n)
 
-as-read-news : (l : Link) (xs : List ℕ) (r : Reading) (o : Out) → AsRead l xs r o → news o ≡ true
-as-read-news l xs (Refused refusal.Room) o e = absurd e
-as-read-news l xs (Refused refusal.Busy) o e = absurd e
-as-read-news l xs (Refused refusal.Kind) o e = ending-news e refl
-as-read-news l xs (Refused refusal.Long) o e = absurd e
-as-read-news l xs (Refused refusal.Short) o e = absurd e
-as-read-news l xs (Refused refusal.Start) o e = absurd e
-as-read-news l xs (Refused refusal.Length) o e = ending-news e refl
-as-read-news l xs (Refused refusal.Tail) o e = absurd e
-as-read-news l xs (Refused refusal.Sum) o e = ending-news e refl
-as-read-news l xs (Refused refusal.Form) o e = absurd e
-as-read-news l xs (Refused refusal.Range) o e = absurd e
-as-read-news l xs (Parts kind command n) o e =
+frame-news : (x : Bool) (j : Job) (held : List ℕ) (kind command : ℕ) (ps : List ℕ) (o : Out) → FrameEnds x j held kind command ps o → news o ≡ true
+frame-news true j held kind command ps o e = ending-news e refl
+frame-news false j held kind command ps o e =
     ending-news e
     (pick-ok (λ (x : Reception). newsReception x ≡ true) (eqb kind 0) _ _ refl
-    (pick-ok (λ (x : Reception). newsReception x ≡ true) (awaits command (l .core .job)) _ _ refl refl))
+    (pick-ok (λ (x : Reception). newsReception x ≡ true) (awaits command j) _ _ refl refl))
+
+as-read-news : (R : Rules) (l : Link) (xs : List ℕ) (r : Reading) (o : Out) → AsRead R l xs r o → news o ≡ true
+as-read-news R l xs (Refused refusal.Room) o e = absurd e
+as-read-news R l xs (Refused refusal.Busy) o e = absurd e
+as-read-news R l xs (Refused refusal.Kind) o e = ending-news e refl
+as-read-news R l xs (Refused refusal.Long) o e = absurd e
+as-read-news R l xs (Refused refusal.Short) o e = absurd e
+as-read-news R l xs (Refused refusal.Start) o e = absurd e
+as-read-news R l xs (Refused refusal.Length) o e = ending-news e refl
+as-read-news R l xs (Refused refusal.Tail) o e = absurd e
+as-read-news R l xs (Refused refusal.Sum) o e = ending-news e refl
+as-read-news R l xs (Refused refusal.Form) o e = absurd e
+as-read-news R l xs (Refused refusal.Range) o e = absurd e
+as-read-news R l xs (Parts kind command n) o e = frame-news (cancelsNow R (l .core .job)) (l .core .job) _ kind command _ o e
 
 from-as-read : (R : Rules) (xs : List ℕ) (t b : ℕ) (zs behind : List ℕ) (n : ℕ) (o : Out) → Whole xs → Expects xs t (b ∷ zs) (o .link)
-    → RunAsRead (o .link) xs (n + suc (length zs)) (runFrom R o n (b ∷ (zs ++ behind)))
+    → RunAsRead R (o .link) xs (n + suc (length zs)) (runFrom R o n (b ∷ (zs ++ behind)))
 unfolding runFrom
 from-as-read R xs t b [] behind n o w e =
     let a = last-byte R xs t b (o .link) w e in
-    pick-by (RunAsRead (o .link) xs (n + 1)) (news (byteOut R (o .link) b)) _ _ (λ _. record { taken = refl; out = a })
-    (λ f. absurd (false≢true (sym f ∙ as-read-news (o .link) xs (read xs) (byteOut R (o .link) b) a)))
+    pick-by (RunAsRead R (o .link) xs (n + 1)) (news (byteOut R (o .link) b)) _ _ (λ _. record { taken = refl; out = a })
+    (λ f. absurd (false≢true (sym f ∙ as-read-news R (o .link) xs (read xs) (byteOut R (o .link) b) a)))
 from-as-read R xs t b (z ∷ zs) behind n o w e =
     let f = byte-news R xs t b (z ∷ zs) (o .link) w (omega arith) e in
     let i = from-as-read R xs t z zs behind (n + 1) (byteOut R (o .link) b) w (byte-expects R xs t b (z ∷ zs) (o .link) w (omega arith) e) in
     let s = byte-sender R xs t b (z ∷ zs) (o .link) w (omega arith) e in
-    pick-by (RunAsRead (o .link) xs (n + suc (suc (length zs)))) (news (byteOut R (o .link) b)) _ _ (λ g. absurd (false≢true (sym f ∙ g)))
-    (λ _. record { taken = i .taken ∙ omega arith; out = same-sender (o .link) ((byteOut R (o .link) b) .link) s xs (read xs) _ (i .out) })
+    pick-by (RunAsRead R (o .link) xs (n + suc (suc (length zs)))) (news (byteOut R (o .link) b)) _ _ (λ g. absurd (false≢true (sym f ∙ g)))
+    (λ _. record { taken = i .taken ∙ omega arith; out = same-sender R (o .link) ((byteOut R (o .link) b) .link) s xs (read xs) _ (i .out) })
 
 -- it takes these bytes and no more
 pub run-as-read : (R : Rules) (l : Link) (xs behind : List ℕ) → l .core .hearing ≡ Hunting → length (l .body) ≡ MAX_BODY → Whole xs
-    → RunAsRead l xs (length xs) (runOut R l (xs ++ behind))
+    → RunAsRead R l xs (length xs) (runOut R l (xs ++ behind))
 run-as-read R l [] behind q r w = let m = (starts [] w) .1 in absurd (omega (arith, m))
 run-as-read R l (b ∷ zs) behind q r w =
     let u = from-as-read R (b ∷ zs) 0 b zs behind 0 (quiet l) w (begins (b ∷ zs) l q r) in

@@ -1,15 +1,19 @@
 -- What the definitions of demand 3 count, on short histories that compute: each counts what it is named for.
 -- Assumes nothing.
 use Prim.Native.Nat.{ℕ}
-use mathlib.Core.Path.{_≡_, refl}
+use mathlib.Core.Path.{_≡_, refl, ap}
 use mathlib.Core.Bool.{true, false, false≢true}
 use mathlib.Core.List.{[], _∷_, _++_, map}
 use lib.ListN.{replicate}
 use lib.Dec.{eqb}
 use Rattle.refusals.specs.Pick.{pick}
 use Rattle.frame.specs.Bytes.{fold}
-use Rattle.frame.specs.Frame.{REQ, ACK, NAK, frameOf}
-use Rattle.rules.specs.Rules.{base}
+use native.Mathlib.Omega.{arith}
+use Rattle.frame.specs.Frame.{REQ, ACK, NAK, CAN, frameOf}
+use Rattle.rules.specs.Rules.{usual, base}
+use Rattle.rules.specs.declared.Role.{Role}
+use Rattle.rules.specs.declared.Role.the-variants.{Host, Module}
+use Rattle.step.specs.Contracts.{isModule}
 use Rattle.job.specs.declared.job.Asking.the-variants.{Plain, Asks}
 use Rattle.link.specs.Link.{freshLink, noBody, noFrame}
 use Rattle.report.specs.declared.Sending.the-variants as sending
@@ -18,7 +22,7 @@ use Rattle.link.specs.Out.{byteOut, tickOut, openOut, restartOut, runFrom}
 use Rattle.history.specs.Perform.{byte, tick, send, restart, lent, outOf}
 use Rattle.history.specs.Counts.{sent07, asked07, everyCall}
 use Rattle.history.specs.History.{after, ticksIn, restartsIn}
-use Rattle.history.specs.Cut.{frames, singles, IsAnswer, ack, nak}
+use Rattle.history.specs.Cut.{frames, singles, IsAnswer, ack, nak, can}
 use Rattle.history.specs.Watch.{Verdict, acknowledged, failed, response, noResponse, unsent, isOwn, none, says, both, verdictIn, verdictCount, settled, watched, verdictsFrom, abandonsFrom, linesFrom}
 
 -- one verdict of a send that is acknowledged
@@ -39,7 +43,7 @@ unfolding byteOut tickOut openOut restartOut frameOf fold noBody noFrame
 every-line = refl
 
 -- one accepted tick and one accepted restart
-pub accepted-counted : (ticksIn base freshLink everyCall ≡ 1) × (restartsIn base freshLink everyCall ≡ 1)
+pub accepted-counted : (ticksIn base (freshLink usual) everyCall ≡ 1) × (restartsIn base (freshLink usual) everyCall ≡ 1)
 unfolding byteOut tickOut openOut restartOut runFrom frameOf fold noBody noFrame
 accepted-counted = (refl, refl)
 
@@ -70,10 +74,20 @@ pub cut-finds : (frames (0x06 ∷ 0x01 ∷ 0x03 ∷ 0x00 ∷ 0x07 ∷ 0xFB ∷ 0
     × (singles (0x06 ∷ 0x01 ∷ 0x03 ∷ 0x00 ∷ 0x07 ∷ 0xFB ∷ 0x15 ∷ []) ≡ 0x06 ∷ 0x15 ∷ [])
 cut-finds = (refl, refl)
 
--- an answer is 06 or 15
-pub answer-either : (b : ℕ) → IsAnswer b → pick (eqb b ACK) true (eqb b NAK) ≡ true
+-- an answer of the host is 06 or 15
+pub answer-either : (b : ℕ) → IsAnswer Host b → pick (eqb b ACK) true (eqb b NAK) ≡ true
 answer-either b ack = refl
 answer-either b nak = refl
+answer-either b (can e) = absurd (no-module e)
+  where
+    no-module : Host ≡ Module → ⊥
+    no-module q = let z : _≡_ {A = ℕ} 0 1 = ap (λ (r : Role). pick (isModule r) 1 0) q in omega arith
+
+-- and of a stand-in 06, 15 or 18
+pub answer-of-three : (b : ℕ) → IsAnswer Module b → pick (eqb b ACK) true (pick (eqb b NAK) true (eqb b CAN)) ≡ true
+answer-of-three b ack = refl
+answer-of-three b nak = refl
+answer-of-three b (can e) = refl
 
 -- each verdict is a send's or a session's, and not both
 pub own-apart : (c : ℕ) (v : Verdict) → isOwn Plain v ≡ true → isOwn (Asks c) v ≡ false

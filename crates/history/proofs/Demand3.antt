@@ -9,7 +9,8 @@ use lib.ListN.{length, length-append}
 use lib.Seq.{take-append-seam}
 use Rattle.frame.specs.Bytes.{over}
 use Rattle.frame.specs.Frame.{frameOf, counted, checksum}
-use Rattle.rules.specs.Rules.{Rules, base, backOffs}
+use Rattle.rules.specs.Rules.{Rules, usual, standIn, rulesOf, backOffs}
+use Rattle.rules.specs.declared.Choice.{Choice}
 use Rattle.hearing.specs.Hearing.{isHunting}
 use Rattle.job.specs.Job.{start}
 use Rattle.reception.specs.Said.{saying}
@@ -27,8 +28,8 @@ use Rattle.history.specs.Perform.{send, session, Call, checksOf}
 use Rattle.history.specs.History.{after}
 use Rattle.history.specs.Watch.{abandonsIn, verdictOf, watch, watched}
 use Rattle.history.specs.Bound.{Fits, bound}
-use Rattle.history.specs.Demand3.{Kept, Demand3, EverySend, EverySession, sendBound, sessionBound}
-use Rattle.history.proofs.Mix.{IsFrame, mix-answers}
+use Rattle.history.specs.Demand3.{Kept, Demand3, EverySend, EverySession, sendBound, sessionBound, HostDemand3, StandInDemand3}
+use Rattle.history.proofs.Mix.{end as finish, IsFrame, mix-answers}
 use Rattle.history.proofs.Hearing.{room, InTime}
 use Rattle.history.proofs.Job.{start-ok}
 use Rattle.history.proofs.Links.{Outcome, lifted}
@@ -55,8 +56,8 @@ module _ (R : Rules) (g : ℕ → ℕ) (fit : Fits R g) where
   unfolding openOut
   open-gave l a f i =
       let h = l .core .hearing in
-      lifted R g fit f a (l .body) (over f (l .frame)) h (length f) (saying reception.Nothing reply.Silent 0) (runOf (l .core .bad) reset.Nothing)
-      (start (isHunting h) a 0) (bound R g a (length f)) 0 0 i (take-append-seam f _)
+      lifted R g fit f a (l .body) (over f (l .frame)) h (length f) (l .core .choice) (saying reception.Nothing reply.Silent 0) (runOf (l .core .bad) reset.Nothing)
+      (start (isHunting h) a 0) (bound R g a (length f)) 0 0 i (take-append-seam f _) finish
       (start-ok R g fit (length f) (isHunting h) h (bound R g a (length f)) 0 0 a i (omega arith) (omega (arith, room-most h)))
 
   open-unsaid : (l : Link) (a : Asking) (f : List ℕ) → NotAbandoned (openOut l a f)
@@ -73,7 +74,7 @@ module _ (R : Rules) (g : ℕ → ℕ) (fit : Fits R g) where
       let o = openOut l a f in
       let c = open-gave l a f i in
       let q : Kept a f (bound R g a (length f)) (watched R a o k) =
-      kept f a (bound R g a (length f)) (watched R a o k) w
+      kept (R .choice .role) f a (bound R g a (length f)) (watched R a o k) w
       (onward-ok R g fit f a (verdictOf a o) (bound R g a (length f)) 0 0 o (watch R a (o .link) k) c (watch-ok R g fit f a k (o .link))) in
       let s = sofar-from R g fit f a k (bound R g a (length f)) 0 0 o (open-unsaid l a f) c in
       record {
@@ -107,12 +108,18 @@ module _ (R : Rules) (g : ℕ → ℕ) (fit : Fits R g) where
       ((accepted-is (roomChecks line up (checksOf l (session command ps))) (openOut l (Asks command) f) o e) .gave)
       (opened l (Asks command) f (in-time R h) (frame-is 0 command ps) k)
 
--- ---- document 01's rules
-pub base-fits : Fits base backOffs
-base-fits = record { wait = λ size. omega arith; late = λ n. omega arith; early = λ n. omega arith }
+-- ---- document 01's rules of sending, which the host and the stand-in share: one theorem over what was chosen
+pub rules-fit : (c : Choice) → Fits (rulesOf c) backOffs
+rules-fit c = record { wait = λ size. omega arith; late = λ n. omega arith; early = λ n. omega arith }
 
-pub base-send : EverySend base (λ size. sendBound)
-base-send = send-demand3 base backOffs base-fits
+pub every-send : (c : Choice) → EverySend (rulesOf c) (λ size. sendBound)
+every-send c = send-demand3 (rulesOf c) backOffs (rules-fit c)
 
-pub base-session : EverySession base (λ size. sessionBound)
-base-session = session-demand3 base backOffs base-fits
+pub every-session : (c : Choice) → EverySession (rulesOf c) (λ size. sessionBound)
+every-session c = session-demand3 (rulesOf c) backOffs (rules-fit c)
+
+pub host-demand3 : HostDemand3
+host-demand3 = (every-send usual, every-session usual)
+
+pub module-demand3 : StandInDemand3
+module-demand3 = (every-send standIn, every-session standIn)

@@ -2,15 +2,18 @@
 -- Assumes nothing.
 use Prim.Native.Nat.{ℕ, zero, suc, _+_, _-_, _≤_, _<_}
 use mathlib.Core.Path.{_≡_, refl, ap, sym, _∙_, subst}
+use mathlib.Core.Bool.{Bool, true, false}
 use mathlib.Core.List.{List, [], _∷_, _++_, append-nil, append-assoc}
 use native.Mathlib.Omega.{arith}
 use lib.Dec.{ltb, eqb}
 use lib.ListN.{length, take, length-append}
 use borrow.Author.Tests.{ltb-true, ltb-false, eqb-true}
+use Rattle.refusals.specs.Pick.{pick}
 use Rattle.frame.specs.Bytes.{fold}
 use Rattle.frame.specs.Frame.{frameOf}
 use Rattle.reading.proofs.Theorems.{built-reads}
 use Rattle.rules.specs.Rules.{Rules}
+use Rattle.rules.specs.declared.Choice.{Choice}
 use Rattle.hearing.specs.Hearing.{heard, hearByte, hearTick, hunted, more, ended, later, keep}
 use Rattle.link.specs.Link.{freshLink, noBody}
 use Rattle.link.specs.Out.{Out, Taken, byteBy, byteOut, tickOut, openOut, restartOut, runOut, heardOut}
@@ -28,6 +31,7 @@ use Rattle.history.specs.Perform.{What, byte, bytes, tick, send, session
 use Rattle.history.specs.History.{next, run, after}
 use Rattle.history.specs.Ranges.{All, Comes, ComeAll, IsByte}
 use Rattle.history.specs.Received.{feed, takenBy, ifTaken, received}
+use Rattle.history.specs.Section11.{cancelsNow}
 use Rattle.history.specs.HandedUp.{FrameUp, HandedUp, nothing, frame}
 use Rattle.refusals.proofs.Picks.{pick-by, pick-ok}
 use Rattle.hearing.proofs.Theorems.{keep-length}
@@ -176,9 +180,9 @@ history-traced R (c ∷ h) xs l x t =
     (history-traced R h (xs ++ ys) z (x .1)
     (done-traced xs (takenBy R l (c .what)) l (roomChecks (c .line) (c .up) (checksOf l (c .what))) (outOf R l (c .what)) t (what-traced R xs l (c .what) (x .0) t)))
 
-fresh-traced : Traced [] freshLink
+fresh-traced : (c : Choice) → Traced [] (freshLink c)
 unfolding noBody
-fresh-traced = record { hears = tt; body = refl }
+fresh-traced c = record { hears = tt; body = refl }
 
 -- ---- the byte that hands up
 -- the body is whole and the Checksum right: the last bytes are a frame
@@ -230,16 +234,21 @@ frame-up xs p d o w k u =
       up = u ∙ w .body;
     }
 
+-- or the frame is cancelled, and nothing is handed up
+up-or-none : (xs : List ℕ) (p : Partial) (d : List ℕ) (o : Out) (x : Bool) → WholeFrame xs d p → p .kind ≤ 1 → o .up ≡ take (pick x 0 (p .size)) d → HandedUp xs o
+up-or-none xs p d o true w k u = nothing u
+up-or-none xs p d o false w k u = frame (frame-up xs p d o w k u)
+
 abbrev Hands : List ℕ → Rules → Link → ℕ → Heard → Type 0
 Hands xs R l b r = HandedUp (xs ++ (b ∷ [])) (byteBy R l b r)
 
 right-hands : (xs : List ℕ) (R : Rules) (l : Link) (b : ℕ) (p : Partial) → WholeFrame (xs ++ (b ∷ [])) (l .body) p → Hands xs R l b (heard Hunting (Ended (ended p)))
 right-hands xs R l b p w =
     pick-by (λ (e : End). Hands xs R l b (heard Hunting (Ended e))) (eqb (p .kind) 0) _ _
-    (λ e. let k : p .kind ≡ 0 = eqb-true _ _ e in frame (frame-up _ p (l .body) _ w (omega arith) refl))
+    (λ e. let k : p .kind ≡ 0 = eqb-true _ _ e in up-or-none _ p (l .body) _ (cancelsNow R (l .core .job)) w (omega arith) refl)
     (λ _.
     pick-by (λ (e : End). Hands xs R l b (heard Hunting (Ended e))) (eqb (p .kind) 1) _ _
-    (λ e. let k : p .kind ≡ 1 = eqb-true _ _ e in frame (frame-up _ p (l .body) _ w (omega arith) refl))
+    (λ e. let k : p .kind ≡ 1 = eqb-true _ _ e in up-or-none _ p (l .body) _ (cancelsNow R (l .core .job)) w (omega arith) refl)
     (λ _. nothing refl))
 
 hands : (xs : List ℕ) (R : Rules) (l : Link) (b : ℕ) (h : Hearing) → TraceIn xs (l .body) h → Hands xs R l b (hearByte b h)
@@ -289,5 +298,7 @@ what-hands R xs l (session command ps) x t = nothing refl
 what-hands R xs l restart x t = nothing refl
 
 -- After any history, any call hands up nothing, or the body of a frame that the frame reader accepts and whose bytes are the last received.
-pub handed-up : (R : Rules) (h : List Call) (w : What) → ComeAll IsByte h → Comes IsByte w → HandedUp (received R freshLink h ++ takenBy R (after R h) w) (outOf R (after R h) w)
-handed-up R h w x y = what-hands R (received R freshLink h) (after R h) w y (history-traced R h [] freshLink x fresh-traced)
+pub handed-up : (R : Rules) (h : List Call) (w : What) → ComeAll IsByte h → Comes IsByte w → HandedUp (received R (freshLink (R .choice)) h ++ takenBy R (after R h) w) (outOf R (after R h) w)
+handed-up R h w x y =
+    let l = freshLink (R .choice) in
+    what-hands R (received R l h) (after R h) w y (history-traced R h [] l x (fresh-traced (R .choice)))

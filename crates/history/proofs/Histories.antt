@@ -7,6 +7,7 @@ use mathlib.Core.List.{List, [], _∷_}
 use lib.ListN.{length}
 use Rattle.frame.specs.Frame.{MAX_PARAMETERS, frameOf}
 use Rattle.rules.specs.Rules.{Rules}
+use Rattle.rules.specs.declared.Choice.{Choice}
 use Rattle.job.specs.Job.{isOpen}
 use Rattle.link.specs.Link.{freshLink}
 use Rattle.link.specs.Out.{Out, Taken, byteOut, tickOut, openOut, restartOut, news, runFrom, quiet}
@@ -52,7 +53,7 @@ pub record Keeps (R : Rules) (B : ℕ → Type 0) (P : Link → Type 0) : Type 0
   pub byte : (l : Link) (b : ℕ) → B b → P l → P ((byteOut R l b) .link)
   pub tick : (l : Link) → P l → P ((tickOut R l) .link)
   pub begin : (l : Link) (a : Asking) (kind command : ℕ) (ps : List ℕ) → length ps ≤ MAX_PARAMETERS → P l → P ((openOut l a (frameOf kind command ps)) .link)
-  pub fresh : P freshLink
+  pub fresh : (c : Choice) → P (freshLink c)
 
 module _ (R : Rules) (B : ℕ → Type 0) (P : Link → Type 0) (keeps : Keeps R B P) where
   run-keeps : (bs : List ℕ) (k : ℕ) (o : Out) → All B bs → P (o .link) → P ((runFrom R o k bs) .out .link)
@@ -69,7 +70,7 @@ module _ (R : Rules) (B : ℕ → Type 0) (P : Link → Type 0) (keeps : Keeps R
   what-keeps l tick x e p = keeps .tick l p
   what-keeps l (send kind command ps) x e p = keeps .begin l Plain kind command ps ((send-free l kind (length ps) e) .fits) p
   what-keeps l (session command ps) x e p = keeps .begin l (Asks command) 0 command ps ((session-free l (length ps) e) .fits) p
-  what-keeps l restart x e p = keeps .fresh
+  what-keeps l restart x e p = keeps .fresh (l .core .choice)
 
   done-keeps : (l : Link) (c : Checked) (o : Out) → P l → (c ≡ Passes → P (o .link)) → P (next l (doneBy c o))
   done-keeps l Passes o p q = q refl
@@ -83,7 +84,7 @@ module _ (R : Rules) (B : ℕ → Type 0) (P : Link → Type 0) (keeps : Keeps R
       (λ e. what-keeps l (c .what) (x .0) (room-passed (c .line) (c .up) (checksOf l (c .what)) e .2) p))
 
   pub after-keeps : (h : List Call) → ComeAll B h → P (after R h)
-  after-keeps h x = history-keeps h freshLink x (keeps .fresh)
+  after-keeps h x = history-keeps h (freshLink (R .choice)) x (keeps .fresh (R .choice))
 
 -- ---- any bytes
 abbrev pub Any : ℕ → Type 0
@@ -113,7 +114,7 @@ time-keeps R =
       byte = λ l b x p. (byte-steps b (l .core .hearing) p) .ok;
       tick = λ l p. (tick-steps (l .core .hearing) p) .ok;
       begin = λ l a kind command ps n p. p;
-      fresh = tt;
+      fresh = λ c. tt;
     }
 
 pub in-time : (R : Rules) (h : List Call) → InTime ((after R h) .core .hearing)

@@ -7,7 +7,8 @@
 use mathlib.Core.Path.{_≡_, sym, ap, _∙_}
 use mathlib.Core.List.{List}
 use Prim.Native.Nat.{ℕ}
-use Rattle.rules.specs.Rules.{Rules}
+use Rattle.rules.specs.Rules.{Rules, rulesOf}
+use Rattle.rules.specs.declared.Choice.{Choice}
 use Rattle.step.specs.declared.core.Core.{Core}
 use Rattle.step.specs.declared.checks.Checked.{Checked}
 use Rattle.link.specs.Out.{Out, Taken}
@@ -38,17 +39,17 @@ promised-in-place R core body frame p n (sessionIn command ps line up r frame′
 promised-in-place R core body frame p n (restartIn line up r body′ frame′ line′ up′ k) = restartCall line up (putTogether r body′ frame′) line′ up′ k
 
 -- a whole history
-pub plays-in-place : (R : Rules) (k n : Parts) (ps : List Played) → PlaysIn R k ps n → Plays R (wholeOf k) ps (wholeOf n)
-plays-in-place R k n ps (noCallsIn z) = noCalls (wholeOf z)
-plays-in-place R k n ps (thenIn z m w p qs c rest) =
-    then (wholeOf z) (wholeOf m) (wholeOf w) p qs (promised-in-place R (z .core) (z .body) (z .frame) p m c) (plays-in-place R m w qs rest)
+pub plays-in-place : (k n : Parts) (ps : List Played) → PlaysIn k ps n → Plays (wholeOf k) ps (wholeOf n)
+plays-in-place k n ps (noCallsIn z) = noCalls (wholeOf z)
+plays-in-place k n ps (thenIn z m w p qs c rest) =
+    then (wholeOf z) (wholeOf m) (wholeOf w) p qs (promised-in-place (rulesOf (z .core .choice)) (z .core) (z .body) (z .frame) p m c) (plays-in-place m w qs rest)
 
-pub plays-in-place-tied : (R : Rules) (k n : Parts) (ps : List Played) → PlaysIn R k ps n
-    → (wholeOf n ≡ run R (wholeOf k) (callsOf ps)) × AllTied R (wholeOf k) ps
-plays-in-place-tied R k n ps h = plays-tied R (wholeOf k) (wholeOf n) ps (plays-in-place R k n ps h)
+pub plays-in-place-tied : (k n : Parts) (ps : List Played) → PlaysIn k ps n
+    → (wholeOf n ≡ run (rulesOf (k .core .choice)) (wholeOf k) (callsOf ps)) × AllTied (rulesOf (k .core .choice)) (wholeOf k) ps
+plays-in-place-tied k n ps h = plays-tied (wholeOf k) (wholeOf n) ps (plays-in-place k n ps h)
 
-pub plays-in-place-after : (R : Rules) (n : Parts) (ps : List Played) → PlaysIn R freshParts ps n → wholeOf n ≡ after R (callsOf ps)
-plays-in-place-after R n ps h = plays-after R (wholeOf n) ps (plays-in-place R freshParts n ps h)
+pub plays-in-place-after : (c : Choice) (n : Parts) (ps : List Played) → PlaysIn (freshParts c) ps n → wholeOf n ≡ after (rulesOf c) (callsOf ps)
+plays-in-place-after c n ps h = plays-after c (wholeOf n) ps (plays-in-place (freshParts c) n ps h)
 
 -- ---- the same call, both ways
 -- Of promises: a call of the link and the call in place, under the same checks and with the same bytes lent, by `put-together` of link.

@@ -30,28 +30,35 @@ use Rattle.reception.specs.declared.said.Said.{Said}
 use Rattle.reception.specs.declared.sums.Sums.{Sums}
 use Rattle.link.specs.declared.link.Link.{Link}
 use Rattle.link.proofs.Hears.{single-news, end-news}
-use Rattle.history.specs.Cut.{ack, nak}
+use Rattle.history.specs.Cut.{ack, nak, can}
 use Rattle.history.specs.Watch.{Verdict, copiesIn, isFailure, isOwn, Says, none, says, both, verdictIn, verdictOf}
 use Rattle.history.specs.Bound.{Fits}
 use Rattle.history.proofs.Mix.{Mix, end as finish, one, copy, mix-append}
 use Rattle.history.proofs.Hearing.{InTime, Steps, ticksAt, byte-steps, tick-steps}
 use Rattle.refusals.proofs.Picks.{neither, pick-by}
 use Rattle.history.proofs.Job.{Good, left, ones, Claim, no-verdict, act-ok}
-use Rattle.reception.specs.Said.{replyBytes, saidOn}
+use Rattle.reception.specs.Said.{replyBytes, cancels, saidEnd, saidOn}
+use Rattle.hearing.specs.declared.hearing.End.{End}
+use Rattle.hearing.specs.declared.hearing.End.the-variants as end
+use Rattle.reception.specs.declared.said.Awaited.{Awaited}
+use Rattle.reception.specs.declared.said.Awaited.the-variants as awaited
+use Rattle.rules.specs.declared.Role.{Role}
+use Rattle.rules.specs.declared.Role.the-variants.{Host, Module}
+use Rattle.rules.specs.declared.Choice.{Choice}
 use Rattle.reception.specs.Sums.{sumsOn}
 
 -- ---- a byte whose report is no more than "nothing" or "skipped" changes the job in nothing, puts nothing out and hands nothing up
 pub record Calm (R : Rules) (size : ℕ) (e : Event) (j : Job) : Type 0 where
   pub job : onEvent R size e j ≡ still j
-  pub silent : (saidOn e (awaitedBy j)) .reply ≡ reply.Silent
-  pub none-up : (saidOn e (awaitedBy j)) .up ≡ 0
+  pub silent : (saidOn (R .choice .role) e (awaitedBy j)) .reply ≡ reply.Silent
+  pub none-up : (saidOn (R .choice .role) e (awaitedBy j)) .up ≡ 0
 
-calm : (R : Rules) (size : ℕ) (e : Event) (j : Job) → ticksAt e ≡ 0 → newsReception ((saidOn e (awaitedBy j)) .reception) ≡ false → newsSending ((onEvent R size e j) .sending) ≡ false → Calm R size e j
+calm : (R : Rules) (size : ℕ) (e : Event) (j : Job) → ticksAt e ≡ 0 → newsReception ((saidOn (R .choice .role) e (awaitedBy j)) .reception) ≡ false → newsSending ((onEvent R size e j) .sending) ≡ false → Calm R size e j
 calm R size Inside j t p q = record { job = refl; silent = refl; none-up = refl }
 calm R size (Kept at) j t p q = record { job = refl; silent = refl; none-up = refl }
 calm R size Skipped j t p q = record { job = refl; silent = refl; none-up = refl }
 calm R size (Alone s) j t p q = absurd (false≢true (sym q ∙ single-news R s j))
-calm R size (Ended e) j t p q = absurd (false≢true (sym p ∙ end-news e j))
+calm R size (Ended e) j t p q = absurd (false≢true (sym p ∙ end-news (R .choice .role) e j))
 calm R size TickHunting j t p q = absurd (omega arith)
 calm R size TickInside j t p q = absurd (omega arith)
 calm R size Aborted j t p q = absurd (omega arith)
@@ -61,7 +68,7 @@ calm-byte R l b r t e =
     let p = neither _ _ e in
     calm R (l .core .size) (r .event) (l .core .job) t (p .0) ((neither _ _ (p .1)) .0)
 
-pub calm-line : (R : Rules) (size : ℕ) (e : Event) (j : Job) (held : List ℕ) → Calm R size e j → replyBytes ((saidOn e (awaitedBy j)) .reply) ++ pick ((onEvent R size e j) .copy) held [] ≡ []
+pub calm-line : (R : Rules) (size : ℕ) (e : Event) (j : Job) (held : List ℕ) → Calm R size e j → replyBytes ((saidOn (R .choice .role) e (awaitedBy j)) .reply) ++ pick ((onEvent R size e j) .copy) held [] ≡ []
 calm-line R size e j held m =
     ap (λ (y : Reply). replyBytes y ++ pick ((onEvent R size e j) .copy) held []) (m .silent) ∙ ap (λ (y : Act). pick (y .copy) held []) (m .job)
 
@@ -79,63 +86,83 @@ pub record Goes (R : Rules) (g : ℕ → ℕ) (f : List ℕ) (a : Asking) (L n t
   pub sends : Sends R f a (o .link)
   pub less : leftOn R g (o .link) + t ≤ L
   pub more : ℕ
-  pub mix : Mix f more (o .line)
+  pub mix : Mix (R .choice .role) f more (o .line)
   pub count : copiesOf (o .link .core .job) ≡ n + more
 
 -- and with a verdict
-pub record Ends (f : List ℕ) (a : Asking) (L n t : ℕ) (v : Verdict) (line : List ℕ) : Type 0 where
+pub record Ends (role : Role) (f : List ℕ) (a : Asking) (L n t : ℕ) (v : Verdict) (line : List ℕ) : Type 0 where
   pub soon : t ≤ L
   pub own : isOwn a v ≡ true
   pub more : ℕ
-  pub mix : Mix f more line
+  pub mix : Mix role f more line
   pub count : copiesIn v ≡ n + more
   pub few : copiesIn v ≤ 4
   pub four : isFailure v ≡ true → copiesIn v ≡ 4
 
 abbrev pub Outcome : Rules → (ℕ → ℕ) → List ℕ → Asking → ℕ → ℕ → ℕ → Says → Out → Type 0
 Outcome R g f a L n t none o = Goes R g f a L n t o
-Outcome R g f a L n t (says v) o = Ends f a L n t v (o .line) × (o .link .core .job ≡ Idle)
+Outcome R g f a L n t (says v) o = Ends (R .choice .role) f a L n t v (o .line) × (o .link .core .job ≡ Idle)
 Outcome R g f a L n t (both v w) o = ⊥
 
-pub reply-mix : (f : List ℕ) (r : Reply) → Mix f 0 (replyBytes r)
-reply-mix f reply.Silent = finish
-reply-mix f reply.Ack = one 6 ack finish
-reply-mix f reply.Nak = one 21 nak finish
+-- ---- what is answered: 06 or 15; 18 by a stand-in alone
+frame-mix : (role : Role) (f : List ℕ) (w : Awaited) → Mix role f 0 (replyBytes (pick (cancels role w) reply.Can reply.Ack))
+frame-mix Host f w = one 6 ack finish
+frame-mix Module f awaited.Nothing = one 6 ack finish
+frame-mix Module f awaited.Ack = one 24 (can refl) finish
+frame-mix Module f (awaited.Response c) = one 6 ack finish
 
-copy-mix : (f l : List ℕ) → l ≡ f → (c : Bool) → Mix f (ones c) (pick c l [])
-copy-mix f l e true = subst (λ (z : List ℕ). Mix f 1 z) (append-nil f ∙ sym e) (copy finish)
-copy-mix f l e false = finish
+end-mix : (role : Role) (f : List ℕ) (e : End) (w : Awaited) → Mix role f 0 (replyBytes ((saidEnd role e w) .reply))
+end-mix role f end.BadLength w = finish
+end-mix role f end.BadSum w = one 21 nak finish
+end-mix role f end.Reserved w = one 6 ack finish
+end-mix role f (end.Request size) w = frame-mix role f w
+end-mix role f (end.Response size command) w = frame-mix role f w
+
+pub said-mix : (role : Role) (f : List ℕ) (e : Event) (w : Awaited) → Mix role f 0 (replyBytes ((saidOn role e w) .reply))
+said-mix role f Inside w = finish
+said-mix role f (Kept at) w = finish
+said-mix role f Skipped w = finish
+said-mix role f (Alone s) w = finish
+said-mix role f (Ended e) w = end-mix role f e w
+said-mix role f TickHunting w = finish
+said-mix role f TickInside w = finish
+said-mix role f Aborted w = finish
+
+copy-mix : (role : Role) (f l : List ℕ) → l ≡ f → (c : Bool) → Mix role f (ones c) (pick c l [])
+copy-mix role f l e true = subst (λ (z : List ℕ). Mix role f 1 z) (append-nil f ∙ sym e) (copy finish)
+copy-mix role f l e false = finish
 
 module _ (R : Rules) (g : ℕ → ℕ) (fit : Fits R g) (f : List ℕ) (a : Asking) where
   -- what the job's act comes to on the line, for any Says
-  lift : (s : Says) (body frame : List ℕ) (h : Hearing) (size : ℕ) (q : Said) (z : Sums) (x : Act) (L n t : ℕ) → InTime h → take size frame ≡ f
-      → Claim R g size h L n t s a (x .job) (x .copy) → Outcome R g f a L n t s (out body frame h size (decided q z x))
-  lift none body frame h size q z x L n t i e c =
+  lift : (s : Says) (body frame : List ℕ) (h : Hearing) (size : ℕ) (k : Choice) (q : Said) (z : Sums) (x : Act) (L n t : ℕ) → InTime h → take size frame ≡ f
+      → Mix (R .choice .role) f 0 (replyBytes (q .reply)) → Claim R g size h L n t s a (x .job) (x .copy)
+      → Outcome R g f a L n t s (out body frame h size k (decided q z x))
+  lift none body frame h size k q z x L n t i e m c =
       record {
         sends = record { time = i; good = c .good; held = e };
         less = c .less;
         more = 0 + ones (x .copy);
-        mix = mix-append (reply-mix f (q .reply)) (copy-mix f (take size frame) e (x .copy));
+        mix = mix-append m (copy-mix (R .choice .role) f (take size frame) e (x .copy));
         count = omega (arith, c .count);
       }
-  lift (says v) body frame h size q z x L n t i e c = (
+  lift (says v) body frame h size k q z x L n t i e m c = (
     record {
       soon = c .soon;
       own = c .own;
       more = 0 + ones (x .copy);
-      mix = mix-append (reply-mix f (q .reply)) (copy-mix f (take size frame) e (x .copy));
+      mix = mix-append m (copy-mix (R .choice .role) f (take size frame) e (x .copy));
       count = omega (arith, c .count);
       few = c .few;
       four = c .four;
     },
     c .idle,
   )
-  lift (both v w) body frame h size q z x L n t i e c = absurd c
+  lift (both v w) body frame h size k q z x L n t i e m c = absurd c
 
-  pub lifted : (body frame : List ℕ) (h : Hearing) (size : ℕ) (q : Said) (z : Sums) (x : Act) (L n t : ℕ) → InTime h → take size frame ≡ f
-      → Claim R g size h L n t (verdictIn a (x .sending) (x .session)) a (x .job) (x .copy)
-      → Outcome R g f a L n t (verdictIn a (x .sending) (x .session)) (out body frame h size (decided q z x))
-  lifted body frame h size q z x L n t i e c = lift (verdictIn a (x .sending) (x .session)) body frame h size q z x L n t i e c
+  pub lifted : (body frame : List ℕ) (h : Hearing) (size : ℕ) (k : Choice) (q : Said) (z : Sums) (x : Act) (L n t : ℕ) → InTime h → take size frame ≡ f
+      → Mix (R .choice .role) f 0 (replyBytes (q .reply)) → Claim R g size h L n t (verdictIn a (x .sending) (x .session)) a (x .job) (x .copy)
+      → Outcome R g f a L n t (verdictIn a (x .sending) (x .session)) (out body frame h size k (decided q z x))
+  lifted body frame h size k q z x L n t i e m c = lift (verdictIn a (x .sending) (x .session)) body frame h size k q z x L n t i e m c
 
   -- o is what a call of t ticks gave, with so many ticks left and so many copies before it
   abbrev pub Gave : ℕ → ℕ → ℕ → Out → Type 0
@@ -145,7 +172,8 @@ module _ (R : Rules) (g : ℕ → ℕ) (fit : Fits R g) (f : List ℕ) (a : Aski
       → Gave (leftOn R g l) (copiesOf (l .core .job)) t (heardOut R (l .core) body (l .frame) r)
   on-heard t l body r k d =
       let x = onEvent R (l .core .size) (r .event) (l .core .job) in
-      lifted body (l .frame) (r .hearing) (l .core .size) (saidOn (r .event) (awaitedBy (l .core .job))) (sumsOn (r .event) (l .core .bad)) x _ _ t (k .ok) (d .held)
+      lifted body (l .frame) (r .hearing) (l .core .size) (l .core .choice) (saidOn (R .choice .role) (r .event) (awaitedBy (l .core .job))) (sumsOn (r .event) (l .core .bad)) x _ _ t (k .ok) (d .held)
+      (said-mix (R .choice .role) f (r .event) (awaitedBy (l .core .job)))
       (subst
       (λ (u : ℕ). Claim R g (l .core .size) (r .hearing) (leftOn R g l) (copiesOf (l .core .job)) u (verdictIn a (x .sending) (x .session)) a (x .job) (x .copy))
       (k .time) (act-ok R g fit (l .core .size) (r .event) (l .core .hearing) (r .hearing) (k .tells) (d .good)))
@@ -169,7 +197,7 @@ module _ (R : Rules) (g : ℕ → ℕ) (fit : Fits R g) (f : List ℕ) (a : Aski
   quiet-gave : (L n : ℕ) (o : Out) → Quiet L n o → Gave L n 0 o
   quiet-gave L n o q =
       subst (λ (s : Says). Outcome R g f a L n 0 s o) (sym (q .verdict))
-      (record { sends = q .sends; less = omega (arith, q .less); more = 0; mix = subst (λ (z : List ℕ). Mix f 0 z) (sym (q .line)) finish; count = omega (arith, q .copies) })
+      (record { sends = q .sends; less = omega (arith, q .less); more = 0; mix = subst (λ (z : List ℕ). Mix (R .choice .role) f 0 z) (sym (q .line)) finish; count = omega (arith, q .copies) })
 
   weaker : (s : Says) (L L′ n n′ : ℕ) (o : Out) → L ≤ L′ → n ≡ n′ → Outcome R g f a L n 0 s o → Outcome R g f a L′ n′ 0 s o
   weaker none L L′ n n′ o h e c = record { sends = c .sends; less = omega (arith, c .less); more = c .more; mix = c .mix; count = omega (arith, c .count) }

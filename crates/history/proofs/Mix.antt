@@ -10,23 +10,24 @@ use lib.Dec.{eqb}
 use lib.ListN.{length, take, drop, getD, replicate, length-append, take-append-drop, length-drop}
 use lib.Seq.{take-at, drop-at}
 use Rattle.frame.specs.Frame.{START}
+use Rattle.rules.specs.declared.Role.{Role}
 use Rattle.refusals.specs.Pick.{pick}
-use Rattle.history.specs.Cut.{Piece, single, whole, cutInto, cut, framesOf, frames, singlesOf, singles, IsAnswer, ack, nak, joined}
+use Rattle.history.specs.Cut.{Piece, single, whole, cutInto, cut, framesOf, frames, singlesOf, singles, IsAnswer, ack, nak, can, joined}
 use Rattle.history.specs.Ranges.{All}
 use Rattle.refusals.proofs.Picks.{pick-by}
 
 -- n copies of f among single bytes that are answers
-pub data Mix (f : List ℕ) : ℕ → List ℕ → Type 0 where
-  end : Mix f 0 []
-  one : {n : ℕ} {l : List ℕ} (b : ℕ) → IsAnswer b → Mix f n l → Mix f n (b ∷ l)
-  copy : {n : ℕ} {l : List ℕ} → Mix f n l → Mix f (suc n) (f ++ l)
+pub data Mix (role : Role) (f : List ℕ) : ℕ → List ℕ → Type 0 where
+  end : Mix role f 0 []
+  one : {n : ℕ} {l : List ℕ} (b : ℕ) → IsAnswer role b → Mix role f n l → Mix role f n (b ∷ l)
+  copy : {n : ℕ} {l : List ℕ} → Mix role f n l → Mix role f (suc n) (f ++ l)
 
-pub mix-append : {f : List ℕ} {m n : ℕ} {a b : List ℕ} → Mix f m a → Mix f n b → Mix f (m + n) (a ++ b)
-mix-append {f} {n = n} {b = b} end y = subst (λ (k : ℕ). Mix f k b) (sym (zero-add n)) y
+pub mix-append : {role : Role} {f : List ℕ} {m n : ℕ} {a b : List ℕ} → Mix role f m a → Mix role f n b → Mix role f (m + n) (a ++ b)
+mix-append {role} {f} {n = n} {b = b} end y = subst (λ (k : ℕ). Mix role f k b) (sym (zero-add n)) y
 mix-append (one c h x) y = one c h (mix-append x y)
-mix-append {f} {n = n} {b = b} (copy {n = m} {l = l} x) y =
-    subst (λ (k : ℕ). Mix f k ((f ++ l) ++ b)) (sym (suc-add m n))
-    (subst (λ (z : List ℕ). Mix f (suc (m + n)) z) (sym (append-assoc f l b)) (copy (mix-append x y)))
+mix-append {role} {f} {n = n} {b = b} (copy {n = m} {l = l} x) y =
+    subst (λ (k : ℕ). Mix role f k ((f ++ l) ++ b)) (sym (suc-add m n))
+    (subst (λ (z : List ℕ). Mix role f (suc (m + n)) z) (sym (append-assoc f l b)) (copy (mix-append x y)))
 
 -- a whole frame: 01, Length, and Length bytes more
 pub record IsFrame (f : List ℕ) : Type 0 where
@@ -36,20 +37,21 @@ pub record IsFrame (f : List ℕ) : Type 0 where
   pub fits : length rest ≡ len
 
 -- the pieces that it is made of
-abbrev pieces : {f : List ℕ} {n : ℕ} {l : List ℕ} → Mix f n l → List Piece
+abbrev pieces : {role : Role} {f : List ℕ} {n : ℕ} {l : List ℕ} → Mix role f n l → List Piece
 pieces end = []
 pieces (one b e x) = single b ∷ pieces x
-pieces {f} (copy x) = whole f ∷ pieces x
+pieces {f = f} (copy x) = whole f ∷ pieces x
 
 nothing-left : (m : ℕ) → cutInto m [] ≡ []
 nothing-left zero = refl
 nothing-left (suc m) = refl
 
-not-01 : {b : ℕ} → IsAnswer b → eqb b 1 ≡ false
+not-01 : {role : Role} {b : ℕ} → IsAnswer role b → eqb b 1 ≡ false
 not-01 ack = refl
 not-01 nak = refl
+not-01 (can e) = refl
 
-skip : (b : ℕ) (l : List ℕ) (m : ℕ) → IsAnswer b → cutInto (suc m) (b ∷ l) ≡ single b ∷ cutInto m l
+skip : {role : Role} (b : ℕ) (l : List ℕ) (m : ℕ) → IsAnswer role b → cutInto (suc m) (b ∷ l) ≡ single b ∷ cutInto m l
 skip b l m e =
     ap
     (λ (x : Bool). pick x (whole (take (getD l 0 0 + 2) (b ∷ l)) ∷ cutInto m (drop (getD l 0 0 + 2) (b ∷ l))) (single b ∷ cutInto m l))
@@ -68,34 +70,34 @@ long : (f : List ℕ) → IsFrame f → 1 < length f
 long f w = rw (w .is) (omega arith)
 
 -- the cutting finds just these
-cut-by : {f : List ℕ} {n : ℕ} {l : List ℕ} → IsFrame f → (x : Mix f n l) → (m : ℕ) → length l ≤ m → cutInto m l ≡ pieces x
+cut-by : {role : Role} {f : List ℕ} {n : ℕ} {l : List ℕ} → IsFrame f → (x : Mix role f n l) → (m : ℕ) → length l ≤ m → cutInto m l ≡ pieces x
 cut-by w end m h = nothing-left m
 cut-by w (one b e x) zero h = absurd (not-suc-le-zero h)
 cut-by w (one {l = l} b e x) (suc m) h = skip b l m e ∙ ap (λ (z : List Piece). single b ∷ z) (cut-by w x m (omega arith))
-cut-by {f} w (copy {l = l} x) zero h = absurd (omega (arith, long f w, length-append f l))
-cut-by {f} w (copy {l = l} x) (suc m) h =
+cut-by {f = f} w (copy {l = l} x) zero h = absurd (omega (arith, long f w, length-append f l))
+cut-by {f = f} w (copy {l = l} x) (suc m) h =
     found f l m w ∙ ap (λ (z : List Piece). whole f ∷ z) (cut-by w x m (omega (arith, long f w, length-append f l)))
 
-cut-is : {f : List ℕ} {n : ℕ} {l : List ℕ} → IsFrame f → (x : Mix f n l) → cut l ≡ pieces x
+cut-is : {role : Role} {f : List ℕ} {n : ℕ} {l : List ℕ} → IsFrame f → (x : Mix role f n l) → cut l ≡ pieces x
 cut-is {l = l} w x = cut-by w x (length l) (omega arith)
 
-frames-are : {f : List ℕ} {n : ℕ} {l : List ℕ} (x : Mix f n l) → framesOf (pieces x) ≡ replicate n f
+frames-are : {role : Role} {f : List ℕ} {n : ℕ} {l : List ℕ} (x : Mix role f n l) → framesOf (pieces x) ≡ replicate n f
 frames-are end = refl
 frames-are (one b e x) = frames-are x
-frames-are {f} (copy x) = ap (λ (z : List (List ℕ)). f ∷ z) (frames-are x)
+frames-are {f = f} (copy x) = ap (λ (z : List (List ℕ)). f ∷ z) (frames-are x)
 
-answers-are : {f : List ℕ} {n : ℕ} {l : List ℕ} (x : Mix f n l) → All IsAnswer (singlesOf (pieces x))
+answers-are : {role : Role} {f : List ℕ} {n : ℕ} {l : List ℕ} (x : Mix role f n l) → All (IsAnswer role) (singlesOf (pieces x))
 answers-are end = tt
 answers-are (one b e x) = (e, answers-are x)
 answers-are (copy x) = answers-are x
 
 -- the frames found are the copies
-pub mix-frames : {f : List ℕ} {n : ℕ} {l : List ℕ} → IsFrame f → Mix f n l → frames l ≡ replicate n f
+pub mix-frames : {role : Role} {f : List ℕ} {n : ℕ} {l : List ℕ} → IsFrame f → Mix role f n l → frames l ≡ replicate n f
 mix-frames w x = ap framesOf (cut-is w x) ∙ frames-are x
 
 -- and the single bytes found are answers
-pub mix-answers : {f : List ℕ} {n : ℕ} {l : List ℕ} → IsFrame f → Mix f n l → All IsAnswer (singles l)
-mix-answers w x = subst (λ (ps : List Piece). All IsAnswer (singlesOf ps)) (sym (cut-is w x)) (answers-are x)
+pub mix-answers : {role : Role} {f : List ℕ} {n : ℕ} {l : List ℕ} → IsFrame f → Mix role f n l → All (IsAnswer role) (singles l)
+mix-answers {role} w x = subst (λ (ps : List Piece). All (IsAnswer role) (singlesOf ps)) (sym (cut-is w x)) (answers-are x)
 
 -- ---- the cutting leaves no byte out
 joined-by : (m : ℕ) (l : List ℕ) → length l ≤ m → joined (cutInto m l) ≡ l

@@ -14,6 +14,8 @@ use Rattle.job.specs.Ticks.{onTick, onAbort}
 use Rattle.hearing.specs.Hearing.{hearByte, hearTick}
 use Rattle.sending.specs.Events.{acknowledge, onSingle, release, awaits, onEnd, onEvent, copiesOf, abandonedSend, abandonedAsk, onRestart, awaitedBy}
 use Rattle.reception.specs.Said.{replyBytes, saidOn}
+use Rattle.reception.specs.declared.said.Awaited.{Awaited}
+use Rattle.rules.specs.declared.Role.{Role}
 use Rattle.link.specs.Out.{Out, Taken, byteOut, tickOut, restartOut, news, runFrom, runOut, quiet}
 use Rattle.step.specs.Checks.{roomChecks}
 use Rattle.step.proofs.Passed.{room-passed}
@@ -43,7 +45,7 @@ use Rattle.history.specs.Demand3.{Spent}
 use Rattle.history.proofs.Mix.{Mix, end as finish, one, mix-append, IsFrame, mix-frames}
 use Rattle.refusals.proofs.Picks.{pick-ok}
 use Rattle.history.proofs.Job.{Good, due, waits, backs, awaiting, good-few, no-verdict}
-use Rattle.history.proofs.Links.{Sends, Outcome, reply-mix, byte-gave, tick-gave, run-gave}
+use Rattle.history.proofs.Links.{Sends, Outcome, said-mix, byte-gave, tick-gave, run-gave}
 use Rattle.history.proofs.Histories.{send-free, session-free}
 use Rattle.history.proofs.Watching.{none-free}
 
@@ -173,9 +175,9 @@ restart-idle : (l : Link) → (restartOut l) .link .core .job ≡ Idle
 unfolding restartOut
 restart-idle l = refl
 
-restart-line : (f : List ℕ) (l : Link) → Mix f 0 ((restartOut l) .line)
+restart-line : (role : Role) (f : List ℕ) (l : Link) → Mix role f 0 ((restartOut l) .line)
 unfolding restartOut
-restart-line f l = one 0x15 nak finish
+restart-line role f l = one 0x15 nak finish
 
 -- ---- nothing is open: a call leaves it so, says no verdict and not abandoned, and puts out no copy
 record Still (x : Act) : Type 0 where
@@ -201,15 +203,15 @@ act-rests R size Aborted = record { send = refl; ask = refl; idle = refl; copy =
 acts-rests : (R : Rules) (size : ℕ) (e : Event) (j : Job) → j ≡ Idle → Still (onEvent R size e j)
 acts-rests R size e j q = subst (λ (x : Job). Still (onEvent R size e x)) (sym q) (act-rests R size e)
 
-pub record Rests (f : List ℕ) (a : Asking) (o : Out) : Type 0 where
+pub record Rests (role : Role) (f : List ℕ) (a : Asking) (o : Out) : Type 0 where
   pub verdict : verdictOf a o ≡ none
   pub unsaid : NotAbandoned o
-  pub line : Mix f 0 (o .line)
+  pub line : Mix role f 0 (o .line)
   pub idle : o .link .core .job ≡ Idle
 
 -- the calls of a link with nothing open, until a send or session is accepted
-record Resting (f : List ℕ) (a : Asking) (os : List Out) : Type 0 where
-  line : Mix f 0 (linesOf os)
+record Resting (role : Role) (f : List ℕ) (a : Asking) (os : List Out) : Type 0 where
+  line : Mix role f 0 (linesOf os)
   verdicts : verdictsOf a os ≡ 0
   abandons : abandonsOf os ≡ 0
 
@@ -219,10 +221,12 @@ done-by P a w l Passes o k m p q = q refl
 done-by P a w l (Refuses r) o k m p q = p
 
 module _ (R : Rules) (f : List ℕ) (a : Asking) where
-  no-copy : (r : Reply) (x : Bool) (l : List ℕ) → x ≡ false → Mix f 0 (replyBytes r ++ pick x l [])
-  no-copy r x l e = subst (λ (y : Bool). Mix f 0 (replyBytes r ++ pick y l [])) (sym e) (mix-append (reply-mix f r) finish)
+  no-copy : (e : Event) (w : Awaited) (x : Bool) (l : List ℕ) → x ≡ false → Mix (R .choice .role) f 0 (replyBytes ((saidOn (R .choice .role) e w) .reply) ++ pick x l [])
+  no-copy e w x l q =
+      subst (λ (y : Bool). Mix (R .choice .role) f 0 (replyBytes ((saidOn (R .choice .role) e w) .reply) ++ pick y l [])) (sym q)
+      (mix-append (said-mix (R .choice .role) f e w) finish)
 
-  pub byte-rests : (l : Link) (b : ℕ) → l .core .job ≡ Idle → Rests f a (byteOut R l b)
+  pub byte-rests : (l : Link) (b : ℕ) → l .core .job ≡ Idle → Rests (R .choice .role) f a (byteOut R l b)
   unfolding byteOut
   byte-rests l b q =
       let e = (hearByte b (l .core .hearing)) .event in
@@ -230,11 +234,11 @@ module _ (R : Rules) (f : List ℕ) (a : Asking) where
       record {
         verdict = no-verdict a _ _ (k .send) (k .ask);
         unsaid = byte-unsaid R l b;
-        line = no-copy ((saidOn e (awaitedBy (l .core .job))) .reply) _ (take (l .core .size) (l .frame)) (k .copy);
+        line = no-copy e (awaitedBy (l .core .job)) _ (take (l .core .size) (l .frame)) (k .copy);
         idle = k .idle;
       }
 
-  pub tick-rests : (l : Link) → l .core .job ≡ Idle → Rests f a (tickOut R l)
+  pub tick-rests : (l : Link) → l .core .job ≡ Idle → Rests (R .choice .role) f a (tickOut R l)
   unfolding tickOut
   tick-rests l q =
       let e = (hearTick (l .core .hearing)) .event in
@@ -242,32 +246,32 @@ module _ (R : Rules) (f : List ℕ) (a : Asking) where
       record {
         verdict = no-verdict a _ _ (k .send) (k .ask);
         unsaid = tick-unsaid R l;
-        line = no-copy ((saidOn e (awaitedBy (l .core .job))) .reply) _ (take (l .core .size) (l .frame)) (k .copy);
+        line = no-copy e (awaitedBy (l .core .job)) _ (take (l .core .size) (l .frame)) (k .copy);
         idle = k .idle;
       }
 
-  from-rests : (bs : List ℕ) (k : ℕ) (o : Out) → Rests f a o → Rests f a ((runFrom R o k bs) .out)
+  from-rests : (bs : List ℕ) (k : ℕ) (o : Out) → Rests (R .choice .role) f a o → Rests (R .choice .role) f a ((runFrom R o k bs) .out)
   unfolding runFrom
   from-rests [] k o q = q
   from-rests (b ∷ bs) k o q =
       let r = byte-rests (o .link) b (q .idle) in
-      pick-ok (λ (z : Taken). Rests f a (z .out)) (news (byteOut R (o .link) b)) _ _ r (from-rests bs (k + 1) (byteOut R (o .link) b) r)
+      pick-ok (λ (z : Taken). Rests (R .choice .role) f a (z .out)) (news (byteOut R (o .link) b)) _ _ r (from-rests bs (k + 1) (byteOut R (o .link) b) r)
 
-  run-rests : (l : Link) (bs : List ℕ) → l .core .job ≡ Idle → Rests f a ((runOut R l bs) .out)
+  run-rests : (l : Link) (bs : List ℕ) → l .core .job ≡ Idle → Rests (R .choice .role) f a ((runOut R l bs) .out)
   run-rests l bs q =
       from-rests bs 0 (quiet l) (record { verdict = no-verdict a sending.Nothing session.Nothing refl refl; unsaid = refl; line = finish; idle = q })
 
-  restart-rests : (l : Link) → l .core .job ≡ Idle → Rests f a (restartOut l)
+  restart-rests : (l : Link) → l .core .job ≡ Idle → Rests (R .choice .role) f a (restartOut l)
   unfolding restartOut
   restart-rests l q =
       record {
         verdict = restart-none a l;
         unsaid = ap (λ (j : Job). abandonsIn ((onRestart j) .sending) ((onRestart j) .session)) q;
-        line = restart-line f l;
+        line = restart-line (R .choice .role) f l;
         idle = restart-idle l;
       }
 
-  rests-on : (o : Out) (os : List Out) → Rests f a o → Resting f a os → Resting f a (o ∷ os)
+  rests-on : (o : Out) (os : List Out) → Rests (R .choice .role) f a o → Resting (R .choice .role) f a os → Resting (R .choice .role) f a (o ∷ os)
   rests-on o os r s =
       record {
         line = mix-append (r .line) (s .line);
@@ -275,11 +279,11 @@ module _ (R : Rules) (f : List ℕ) (a : Asking) where
         abandons = ap₂ (λ (m n : ℕ). m + n) (r .unsaid) (s .abandons);
       }
 
-  none-rests : Resting f a []
+  none-rests : Resting (R .choice .role) f a []
   none-rests = record { line = finish; verdicts = refl; abandons = refl }
 
-  rests-taken : (w : What) (l : Link) (m : Link → List Out) → l .core .job ≡ Idle → ((z : Link) → z .core .job ≡ Idle → Resting f a (m z))
-      → Resting f a (outsTaken w (outOf R l w) (m ((outOf R l w) .link)))
+  rests-taken : (w : What) (l : Link) (m : Link → List Out) → l .core .job ≡ Idle → ((z : Link) → z .core .job ≡ Idle → Resting (R .choice .role) f a (m z))
+      → Resting (R .choice .role) f a (outsTaken w (outOf R l w) (m ((outOf R l w) .link)))
   rests-taken (byte b) l m q i = let r = byte-rests l b q in rests-on _ _ r (i _ (r .idle))
   rests-taken (bytes bs) l m q i = let r = run-rests l bs q in rests-on _ _ r (i _ (r .idle))
   rests-taken tick l m q i = let r = tick-rests l q in rests-on _ _ r (i _ (r .idle))
@@ -287,10 +291,10 @@ module _ (R : Rules) (f : List ℕ) (a : Asking) where
   rests-taken (sessionCall command ps) l m q i = none-rests
   rests-taken restart l m q i = let r = restart-rests l q in rests-on _ _ r (i _ (r .idle))
 
-  idle-rests : (h : List Call) (l : Link) → l .core .job ≡ Idle → Resting f a (outs R l h)
+  idle-rests : (h : List Call) (l : Link) → l .core .job ≡ Idle → Resting (R .choice .role) f a (outs R l h)
   idle-rests [] l q = none-rests
   idle-rests (c ∷ h) l q =
-      done-by (λ _ os. Resting f a os) a (c .what) l (roomChecks (c .line) (c .up) (checksOf l (c .what))) (outOf R l (c .what)) (λ z. watch R a z h) (λ z. outs R z h)
+      done-by (λ _ os. Resting (R .choice .role) f a os) a (c .what) l (roomChecks (c .line) (c .up) (checksOf l (c .what))) (outOf R l (c .what)) (λ z. watch R a z h) (λ z. outs R z h)
       (idle-rests h l q)
       (λ _. rests-taken (c .what) l (λ z. outs R z h) q (idle-rests h))
 
@@ -300,9 +304,9 @@ SpentBy m (going t l) = Unit {0}
 SpentBy m restartedFirst = Unit {0}
 SpentBy m (settled v t l) = copiesIn v ≡ m
 
-pub record Sofar (f : List ℕ) (a : Asking) (n : ℕ) (w : Watch) (os : List Out) : Type 0 where
+pub record Sofar (role : Role) (f : List ℕ) (a : Asking) (n : ℕ) (w : Watch) (os : List Out) : Type 0 where
   pub more : ℕ
-  pub mix : Mix f more (linesOf os)
+  pub mix : Mix role f more (linesOf os)
   pub few : n + more ≤ 4
   pub spent : SpentBy (n + more) w
   pub said : verdictsOf a os ≡ verdictsBy w
@@ -325,8 +329,8 @@ add-abandons t l (settled v u k) = refl
 
 module _ (R : Rules) (g : ℕ → ℕ) (fit : Fits R g) (f : List ℕ) (a : Asking) where
   onward-sofar : (s : Says) (L n t : ℕ) (o : Out) (w : Watch) (os : List Out) → verdictOf a o ≡ s → NotAbandoned o → Outcome R g f a L n t s o
-      → (Sends R f a (o .link) → Sofar f a (copiesOf (o .link .core .job)) w os) → (o .link .core .job ≡ Idle → Resting f a os)
-      → Sofar f a n (onward s t (o .line) w) (o ∷ os)
+      → (Sends R f a (o .link) → Sofar (R .choice .role) f a (copiesOf (o .link .core .job)) w os) → (o .link .core .job ≡ Idle → Resting (R .choice .role) f a os)
+      → Sofar (R .choice .role) f a n (onward s t (o .line) w) (o ∷ os)
   onward-sofar none L n t o w os v b c p q =
       let r = p (c .sends) in
       record {
@@ -349,11 +353,11 @@ module _ (R : Rules) (g : ℕ → ℕ) (fit : Fits R g) (f : List ℕ) (a : Aski
       }
   onward-sofar (both v u) L n t o w os e b c p q = absurd c
 
-  restarted : (l : Link) (os : List Out) → Sends R f a l → Resting f a os → Sofar f a (copiesOf (l .core .job)) restartedFirst (restartOut l ∷ os)
+  restarted : (l : Link) (os : List Out) → Sends R f a l → Resting (R .choice .role) f a os → Sofar (R .choice .role) f a (copiesOf (l .core .job)) restartedFirst (restartOut l ∷ os)
   restarted l os d r =
       record {
         more = 0;
-        mix = mix-append (restart-line f l) (r .line);
+        mix = mix-append (restart-line (R .choice .role) f l) (r .line);
         few = omega (arith, good-few (d .good));
         spent = tt;
         said = ap₂ (λ (y : Says) (n : ℕ). verdictCount y + n) (restart-none a l) (r .verdicts);
@@ -361,8 +365,8 @@ module _ (R : Rules) (g : ℕ → ℕ) (fit : Fits R g) (f : List ℕ) (a : Aski
       }
 
   taken-sofar : (w : What) (l : Link) (k : Link → Watch) (m : Link → List Out) → Sends R f a l → checksOf l w ≡ Passes
-      → ((z : Link) → Sends R f a z → Sofar f a (copiesOf (z .core .job)) (k z) (m z)) → ((z : Link) → z .core .job ≡ Idle → Resting f a (m z))
-      → Sofar f a (copiesOf (l .core .job)) (watchTaken a w (outOf R l w) (k ((outOf R l w) .link))) (outsTaken w (outOf R l w) (m ((outOf R l w) .link)))
+      → ((z : Link) → Sends R f a z → Sofar (R .choice .role) f a (copiesOf (z .core .job)) (k z) (m z)) → ((z : Link) → z .core .job ≡ Idle → Resting (R .choice .role) f a (m z))
+      → Sofar (R .choice .role) f a (copiesOf (l .core .job)) (watchTaken a w (outOf R l w) (k ((outOf R l w) .link))) (outsTaken w (outOf R l w) (m ((outOf R l w) .link)))
   taken-sofar (byte b) l k m d e i j =
       onward-sofar (verdictOf a (outOf R l (byte b))) _ _ 0 _ _ _ refl (byte-unsaid R l b) (byte-gave R g fit f a l b d) (i _) (j _)
   taken-sofar (bytes bs) l k m d e i j =
@@ -372,16 +376,16 @@ module _ (R : Rules) (g : ℕ → ℕ) (fit : Fits R g) (f : List ℕ) (a : Aski
   taken-sofar (sessionCall command ps) l k m d e i j = absurd (none-free d (session-free l (length ps) e))
   taken-sofar restart l k m d e i j = restarted l (m ((restartOut l) .link)) d (j _ (restart-idle l))
 
-  open-sofar : (h : List Call) (l : Link) → Sends R f a l → Sofar f a (copiesOf (l .core .job)) (watch R a l h) (outs R l h)
+  open-sofar : (h : List Call) (l : Link) → Sends R f a l → Sofar (R .choice .role) f a (copiesOf (l .core .job)) (watch R a l h) (outs R l h)
   open-sofar [] l d = record { more = 0; mix = finish; few = omega (arith, good-few (d .good)); spent = tt; said = refl; abandoned = refl }
   open-sofar (c ∷ h) l d =
-      done-by (Sofar f a (copiesOf (l .core .job))) a (c .what) l (roomChecks (c .line) (c .up) (checksOf l (c .what))) (outOf R l (c .what)) (λ z. watch R a z h) (λ z. outs R z h)
+      done-by (Sofar (R .choice .role) f a (copiesOf (l .core .job))) a (c .what) l (roomChecks (c .line) (c .up) (checksOf l (c .what))) (outOf R l (c .what)) (λ z. watch R a z h) (λ z. outs R z h)
       (open-sofar h l d)
       (λ e. taken-sofar (c .what) l (λ z. watch R a z h) (λ z. outs R z h) d (room-passed (c .line) (c .up) (checksOf l (c .what)) e .2) (open-sofar h) (idle-rests R f a h))
 
   -- from the accepting call, which gave o
   pub sofar-from : (h : List Call) (L n t : ℕ) (o : Out) → NotAbandoned o → Outcome R g f a L n t (verdictOf a o) o
-      → Sofar f a n (onward (verdictOf a o) t (o .line) (watch R a (o .link) h)) (o ∷ outs R (o .link) h)
+      → Sofar (R .choice .role) f a n (onward (verdictOf a o) t (o .line) (watch R a (o .link) h)) (o ∷ outs R (o .link) h)
   sofar-from h L n t o b c = onward-sofar (verdictOf a o) L n t o _ _ refl b c (open-sofar h (o .link)) (idle-rests R f a h (o .link))
 
 pub one-at-most : (w : Watch) → verdictsBy w ≤ 1
@@ -389,7 +393,7 @@ one-at-most (going t l) = omega arith
 one-at-most restartedFirst = omega arith
 one-at-most (settled v t l) = omega arith
 
-pub spent-is : {f line : List ℕ} {m : ℕ} → IsFrame f → Mix f m line → (w : Watch) → SpentBy (0 + m) w → Spent f line w
+pub spent-is : {role : Role} {f line : List ℕ} {m : ℕ} → IsFrame f → Mix role f m line → (w : Watch) → SpentBy (0 + m) w → Spent f line w
 spent-is i x (going t l) e = tt
 spent-is i x restartedFirst e = tt
-spent-is {f} {line} {m} i x (settled v t l) e = mix-frames i x ∙ ap (λ (n : ℕ). replicate n f) (let q : m ≡ copiesIn v = omega arith in q)
+spent-is {f = f} {line = line} {m = m} i x (settled v t l) e = mix-frames i x ∙ ap (λ (n : ℕ). replicate n f) (let q : m ≡ copiesIn v = omega arith in q)

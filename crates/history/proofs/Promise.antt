@@ -1,25 +1,27 @@
 -- What the link's calls promise is what a history performs: the links handed back, the answers, and every lent byte.
 -- Assumes nothing.
-use Prim.Native.Nat.{ℕ}
+use Prim.Native.Nat.{ℕ, _+_}
 use mathlib.Core.Path.{_≡_, refl, ap, _∙_, subst}
-use mathlib.Core.List.{List}
+use mathlib.Core.List.{List, [], _∷_}
 use lib.ListN.{length}
 use Rattle.frame.specs.Bytes.{over}
 use Rattle.frame.specs.Frame.{frameOf, REQ}
-use Rattle.rules.specs.Rules.{Rules}
+use Rattle.rules.specs.Rules.{Rules, rulesOf}
+use Rattle.rules.specs.declared.Choice.{Choice}
 use Rattle.job.specs.declared.job.Asking.the-variants.{Plain, Asks}
 use Rattle.link.specs.Link.{freshLink}
-use Rattle.link.specs.Out.{Out, Taken, byteOut, tickOut, openOut, restartOut, runOut}
-use Rattle.step.specs.Checks.{checks, sendOwn, sessionOwn}
+use Rattle.link.specs.Out.{Out, Taken, byteOut, tickOut, openOut, restartOut, news, quiet, runFrom, runOut}
+use Rattle.step.specs.Checks.{checks, roomChecks, sendOwn, sessionOwn}
 use Rattle.step.specs.declared.checks.Checked.{Checked}
 use Rattle.step.specs.declared.checks.Checked.the-variants.{Passes, Refuses}
 use Rattle.link.specs.Calls.{answered, ran, left, CallPromise, RunPromise}
 use Rattle.link.specs.declared.calls.Answered.{Answered}
 use Rattle.link.specs.declared.calls.Ran.{Ran}
 use Rattle.link.specs.declared.link.Link.{Link}
-use Rattle.history.specs.Perform.{byte, bytes, tick, send, session, restart, Done, doneBy}
+use Rattle.refusals.proofs.Picks.{pick-ok}
+use Rattle.history.specs.Perform.{What, byte, bytes, tick, send, session, restart, Call, checksOf, outOf, Done, doneBy, perform}
 use Rattle.history.specs.History.{next, run, after}
-use Rattle.history.specs.Played.{byCall, byRun, Played, played, Promised, byteCall, bytesCall, tickCall, sendCall, sessionCall, restartCall, Plays, noCalls, then, callsOf, answerOf, runAnswerOf, lineOf, upOf, AllTied, Performs}
+use Rattle.history.specs.Played.{byCall, byRun, Played, played, Promised, byteCall, bytesCall, tickCall, sendCall, sessionCall, restartCall, Plays, noCalls, then, callOf, callsOf, answerOf, runAnswerOf, lineOf, upOf, AllTied, Performs}
 
 next-is : (c : Checked) (o : Out) (l : Link) → (answered c o l) .link ≡ next l (doneBy c o)
 next-is Passes o l = refl
@@ -122,16 +124,53 @@ module _ (R : Rules) (l : Link) where
   promised p m (sessionCall command ps line up r line′ up′ k) = session-tied command ps line up r line′ up′ k
   promised p m (restartCall line up r line′ up′ k) = restart-tied line up r line′ up′ k
 
+-- ---- what was chosen stays
+-- No call changes what the link was opened as; a restart neither.
+run-keeps : (R : Rules) (c : Choice) (bs : List ℕ) (k : ℕ) (o : Out) → o .link .core .choice ≡ c → (runFrom R o k bs) .out .link .core .choice ≡ c
+unfolding byteOut runFrom
+run-keeps R c [] k o e = e
+run-keeps R c (b ∷ bs) k o e =
+    pick-ok (λ (z : Taken). z .out .link .core .choice ≡ c) (news (byteOut R (o .link) b)) _ _ e (run-keeps R c bs (k + 1) (byteOut R (o .link) b) e)
+
+what-keeps : (R : Rules) (l : Link) (w : What) → (outOf R l w) .link .core .choice ≡ l .core .choice
+unfolding byteOut tickOut openOut restartOut
+what-keeps R l (byte b) = refl
+what-keeps R l (bytes bs) = run-keeps R (l .core .choice) bs 0 (quiet l) refl
+what-keeps R l tick = refl
+what-keeps R l (send kind command ps) = refl
+what-keeps R l (session command ps) = refl
+what-keeps R l restart = refl
+
+done-keeps : (l : Link) (c : Checked) (o : Out) → o .link .core .choice ≡ l .core .choice → next l (doneBy c o) .core .choice ≡ l .core .choice
+done-keeps l Passes o e = e
+done-keeps l (Refuses k) o e = refl
+
+pub choice-kept : (R : Rules) (l : Link) (c : Call) → next l (perform R l c) .core .choice ≡ l .core .choice
+choice-kept R l c = done-keeps l (roomChecks (c .line) (c .up) (checksOf l (c .what))) (outOf R l (c .what)) (what-keeps R l (c .what))
+
+-- so after any history it is what it was
+pub run-keeps-choice : (R : Rules) (h : List Call) (l : Link) → (run R l h) .core .choice ≡ l .core .choice
+run-keeps-choice R [] l = refl
+run-keeps-choice R (c ∷ h) l = run-keeps-choice R h (next l (perform R l c)) ∙ choice-kept R l c
+
+pub after-keeps-choice : (R : Rules) (h : List Call) → (after R h) .core .choice ≡ R .choice
+after-keeps-choice R h = run-keeps-choice R h (freshLink (R .choice))
+
 -- ---- a whole history
 -- Calls that keep their promises, one after the other: the last link is the one that the history runs to, and every call is tied to it.
-pub plays-tied : (R : Rules) (l n : Link) (ps : List Played) → Plays R l ps n → (n ≡ run R l (callsOf ps)) × AllTied R l ps
-plays-tied R l n ps (noCalls z) = (refl, tt)
-plays-tied R l n ps (then z m w p qs k rest) =
-    let d = promised R l p m k in
-    let i = plays-tied R m n qs rest in
+-- The rules are those of what the first link was opened as, since no call changes it.
+plays-by : (c : Choice) (l n : Link) (ps : List Played) → l .core .choice ≡ c → Plays l ps n → (n ≡ run (rulesOf c) l (callsOf ps)) × AllTied (rulesOf c) l ps
+plays-by c l n ps q (noCalls z) = (refl, tt)
+plays-by c l n ps q (then z m w p qs k rest) =
+    let R = rulesOf c in
+    let d = promised R l p m (subst (λ (x : Choice). Promised (rulesOf x) l p m) q k) in
     let e = d .link in
+    let i = plays-by c m n qs (ap (λ (x : Link). x .core .choice) e ∙ choice-kept R l (callOf p) ∙ q) rest in
     (i .0 ∙ ap (λ (x : Link). run R x (callsOf qs)) e, (d .tied, subst (λ (x : Link). AllTied R x qs) e (i .1)))
 
+pub plays-tied : (l n : Link) (ps : List Played) → Plays l ps n → (n ≡ run (rulesOf (l .core .choice)) l (callsOf ps)) × AllTied (rulesOf (l .core .choice)) l ps
+plays-tied l n ps k = plays-by (l .core .choice) l n ps refl k
+
 -- from the link that opening gives
-pub plays-after : (R : Rules) (n : Link) (ps : List Played) → Plays R freshLink ps n → n ≡ after R (callsOf ps)
-plays-after R n ps k = (plays-tied R freshLink n ps k) .0
+pub plays-after : (c : Choice) (n : Link) (ps : List Played) → Plays (freshLink c) ps n → n ≡ after (rulesOf c) (callsOf ps)
+plays-after c n ps k = (plays-tied (freshLink c) n ps k) .0

@@ -12,7 +12,8 @@ use borrow.Author.Tests.{ltb-true, ltb-false}
 use Rattle.frame.specs.Frame.{MAX_BODY, frameOf}
 use Rattle.frame.proofs.Over.{over-length}
 use Rattle.frame.proofs.Theorems.{frame-bounds}
-use Rattle.rules.specs.Rules.{Rules, Cause, told, time, base, backOffs}
+use Rattle.rules.specs.declared.Choice.{Choice}
+use Rattle.rules.specs.Rules.{Rules, Cause, told, time, rulesOf, backOffs}
 use Rattle.hearing.specs.Hearing.{hearByte, hearTick, hunted, isHunting}
 use Rattle.hearing.proofs.Theorems.{keep-length}
 use Rattle.job.specs.Job.{start, lose}
@@ -47,7 +48,7 @@ use Rattle.history.proofs.Job.{Good, due, waits, backs, awaiting}
 use Rattle.history.proofs.Links.{Sends, Outcome, byte-gave, tick-gave}
 use Rattle.history.proofs.Histories.{Keeps, after-keeps, Any, any-calls}
 use Rattle.history.proofs.Once.{byte-rests, tick-rests}
-use Rattle.history.proofs.Demand3.{open-gave, base-fits}
+use Rattle.history.proofs.Demand3.{open-gave, rules-fit}
 
 -- ---- hearing
 abbrev HeardIn : Heard → Type 0
@@ -95,7 +96,7 @@ hearing-keeps R =
       byte = λ l b x k. byte-in b (l .core .hearing) x k;
       tick = λ l k. tick-in (l .core .hearing) k;
       begin = λ l a kind command ps n k. k;
-      fresh = tt;
+      fresh = λ c. tt;
     }
 
 -- ---- the run of bad sums
@@ -123,7 +124,7 @@ bad-keeps R =
       byte = λ l b x k. sums-few ((hearByte b (l .core .hearing)) .event) (l .core .bad) k;
       tick = λ l k. sums-few ((hearTick (l .core .hearing)) .event) (l .core .bad) k;
       begin = λ l a kind command ps n k. k;
-      fresh = omega arith;
+      fresh = λ c. omega arith;
     }
 
 -- ---- the arrays and the held frame
@@ -145,7 +146,7 @@ sizes-keeps R =
             body = k .body;
             frame = over-length (frameOf kind command ps) (l .frame) (omega (arith, w .1, k .frame)) ∙ k .frame;
           };
-      fresh = record { size = omega arith; body = refl; frame = refl };
+      fresh = λ c. record { size = omega arith; body = refl; frame = refl };
     }
 
 -- after any history whatever
@@ -201,7 +202,7 @@ module _ (R : Rules) (g : ℕ → ℕ) (fit : Fits R g) where
         begin = λ l a kind command ps n k.
             let f = frameOf kind command ps in
             record { time = open-time l a f (k .time); job = outcome-fine R g _ a (verdictOf a (openOut l a f)) _ 0 0 (openOut l a f) (open-gave R g fit l a f (k .time)) };
-        fresh = record { time = tt; job = idle refl };
+        fresh = λ c. record { time = tt; job = idle refl };
       }
 
 -- ---- a back-off is none longer than the rules'
@@ -279,7 +280,7 @@ module _ (R : Rules) (most : ℕ) (longest : (cause : Cause) (n : ℕ) → R .ba
         byte = λ l b x k. act-short (l .core .size) ((hearByte b (l .core .hearing)) .event) (l .core .job) k;
         tick = λ l k. act-short (l .core .size) ((hearTick (l .core .hearing)) .event) (l .core .job) k;
         begin = λ l a kind command ps n k. start-short (isHunting (l .core .hearing)) a 0;
-        fresh = tt;
+        fresh = λ c. tt;
       }
 
 inside : (h : Hearing) → StillInside h → IsInside h
@@ -313,8 +314,8 @@ in-range-by R g fit most longest h x =
     }
 
 -- On links reached from opening no guard is ever met: document 01's rules, whose longest back-off is 2,100 ticks.
-pub in-range : (h : List Call) → ComeAll IsByte h → InRange base 2100 (after base h)
-in-range h x = in-range-by base backOffs base-fits 2100 longest h x
+pub in-range : (c : Choice) (h : List Call) → ComeAll IsByte h → InRange (rulesOf c) 2100 (after (rulesOf c) h)
+in-range c h x = in-range-by (rulesOf c) backOffs (rules-fit c) 2100 longest h x
   where
     longest : (cause : Cause) (n : ℕ) → backOffs n ≤ 2100
     longest cause n = pick-ok (λ (t : ℕ). t ≤ 2100) (eqb n 1) _ _ (omega arith) (pick-ok (λ (t : ℕ). t ≤ 2100) (eqb n 2) _ _ (omega arith) (omega arith))

@@ -6,7 +6,8 @@ use mathlib.Core.List.{List}
 use native.Mathlib.Omega.{arith}
 use lib.ListN.{length}
 use Rattle.frame.specs.Frame.{frameOf, REQ}
-use Rattle.rules.specs.Rules.{Rules, base}
+use Rattle.rules.specs.Rules.{Rules, usual, rulesOf}
+use Rattle.rules.specs.declared.Choice.{Choice}
 use Rattle.job.specs.declared.job.Asking.{Asking}
 use Rattle.job.specs.declared.job.Asking.the-variants.{Plain, Asks}
 use Rattle.link.specs.Out.{Out}
@@ -16,7 +17,7 @@ use Rattle.history.specs.Cut.{frames}
 use Rattle.history.specs.Watch.{failed, unsent, Watch, going, restartedFirst, settled, watched, verdictsFrom, linesFrom, verdictsBy}
 use Rattle.history.specs.Bound.{Fits, toldLonger}
 use Rattle.history.specs.Demand3.{Open, Ended, Kept, Spent, IsOver, NotRestarted, Demand3, HasVerdict, sendBound, sessionBound}
-use Rattle.history.proofs.Demand3.{base-send, base-session}
+use Rattle.history.proofs.Demand3.{every-send, every-session}
 
 -- ---- the sentence
 has : (R : Rules) (a : Asking) (f : List ℕ) (bound : ℕ) (o : Out) (h : List Call) (w : Watch) → watched R a o h ≡ w → Kept a f bound w → IsOver w → NotRestarted w
@@ -31,19 +32,19 @@ pub has-verdict : (R : Rules) (a : Asking) (f : List ℕ) (bound : ℕ) (o : Out
     → bound ≤ ticksIn R (o .link) h → restartsIn R (o .link) h ≡ 0 → HasVerdict R a f bound o h
 has-verdict R a f bound o h d t r = has R a f bound o h (watched R a o h) refl (d .kept) (d .comes t) (d .restarted r) (d .said) (d .spent)
 
--- any send of document 01's link, after any history, by the 15,701st tick
-pub send-has-verdict : (h k : List Call) (line up kind command : ℕ) (ps : List ℕ) (o : Out)
-    → perform base (after base h) (record { what = send kind command ps; line = line; up = up }) ≡ took o
-    → sendBound ≤ ticksIn base (o .link) k → restartsIn base (o .link) k ≡ 0 → HasVerdict base Plain (frameOf kind command ps) sendBound o k
-send-has-verdict h k line up kind command ps o e t r =
-    has-verdict base Plain (frameOf kind command ps) sendBound o k (base-send h k line up kind command ps o e) t r
+-- any send, of the host or the stand-in, after any history, by the 15,701st tick
+pub send-has-verdict : (c : Choice) (h k : List Call) (line up kind command : ℕ) (ps : List ℕ) (o : Out)
+    → perform (rulesOf c) (after (rulesOf c) h) (record { what = send kind command ps; line = line; up = up }) ≡ took o
+    → sendBound ≤ ticksIn (rulesOf c) (o .link) k → restartsIn (rulesOf c) (o .link) k ≡ 0 → HasVerdict (rulesOf c) Plain (frameOf kind command ps) sendBound o k
+send-has-verdict c h k line up kind command ps o e t r =
+    has-verdict (rulesOf c) Plain (frameOf kind command ps) sendBound o k (every-send c h k line up kind command ps o e) t r
 
 -- any session, by the 20,700th
-pub session-has-verdict : (h k : List Call) (line up command : ℕ) (ps : List ℕ) (o : Out)
-    → perform base (after base h) (record { what = session command ps; line = line; up = up }) ≡ took o
-    → sessionBound ≤ ticksIn base (o .link) k → restartsIn base (o .link) k ≡ 0 → HasVerdict base (Asks command) (frameOf REQ command ps) sessionBound o k
-session-has-verdict h k line up command ps o e t r =
-    has-verdict base (Asks command) (frameOf REQ command ps) sessionBound o k (base-session h k line up command ps o e) t r
+pub session-has-verdict : (c : Choice) (h k : List Call) (line up command : ℕ) (ps : List ℕ) (o : Out)
+    → perform (rulesOf c) (after (rulesOf c) h) (record { what = session command ps; line = line; up = up }) ≡ took o
+    → sessionBound ≤ ticksIn (rulesOf c) (o .link) k → restartsIn (rulesOf c) (o .link) k ≡ 0 → HasVerdict (rulesOf c) (Asks command) (frameOf REQ command ps) sessionBound o k
+session-has-verdict c h k line up command ps o e t r =
+    has-verdict (rulesOf c) (Asks command) (frameOf REQ command ps) sessionBound o k (every-session c h k line up command ps o e) t r
 
 -- A failure follows exactly four: failed, and not sent.
 pub failed-four : (a : Asking) (f : List ℕ) (bound n t : ℕ) (l : List ℕ) → Ended a f bound (failed n) t l → n ≡ 4
@@ -61,5 +62,5 @@ pub four-while-open : (f : List ℕ) (bound t : ℕ) (l : List ℕ) → Open f b
 four-while-open f bound t l e = e .few
 
 -- Rules whose back-off by 15 or 18 is one longer than by time fit, with the shorter for g.
-pub one-longer-fits : Fits (record { wait = λ size. 1; back = toldLonger }) (λ n. 0)
+pub one-longer-fits : Fits (record { choice = usual; wait = λ size. 1; back = toldLonger }) (λ n. 0)
 one-longer-fits = record { wait = λ size. omega arith; late = λ n. omega arith; early = λ n. omega arith }

@@ -8,6 +8,7 @@ use native.Mathlib.Omega.{arith}
 use native.Mathlib.Nat.{zero-add}
 use lib.ListN.{length, replicate, length-replicate}
 use Rattle.rules.specs.Rules.{Rules}
+use Rattle.rules.specs.declared.Role.{Role}
 use Rattle.job.specs.Job.{isOpen}
 use Rattle.sending.specs.Events.{copiesOf}
 use Rattle.link.specs.Out.{Out}
@@ -31,16 +32,16 @@ use Rattle.history.proofs.Histories.{send-free, session-free, Free}
 use Rattle.step.proofs.Passed.{room-passed}
 
 -- no verdict yet: n copies had gone out and L ticks were left at the start of the watch
-pub record Mid (f : List ℕ) (L n t : ℕ) (line : List ℕ) : Type 0 where
+pub record Mid (role : Role) (f : List ℕ) (L n t : ℕ) (line : List ℕ) : Type 0 where
   pub soon : t < L
   pub more : ℕ
-  pub mix : Mix f more line
+  pub mix : Mix role f more line
   pub few : n + more ≤ 4
 
-abbrev pub Watched : List ℕ → Asking → ℕ → ℕ → Watch → Type 0
-Watched f a L n (going t line) = Mid f L n t line
-Watched f a L n restartedFirst = Unit {0}
-Watched f a L n (settled v t line) = Ends f a L n t v line
+abbrev pub Watched : Role → List ℕ → Asking → ℕ → ℕ → Watch → Type 0
+Watched role f a L n (going t line) = Mid role f L n t line
+Watched role f a L n restartedFirst = Unit {0}
+Watched role f a L n (settled v t line) = Ends role f a L n t v line
 
 pub is-open : {R : Rules} {size : ℕ} {h : Hearing} {a : Asking} {job : Job} → Good R size h a job → isOpen job ≡ true
 is-open (due k w) = refl
@@ -60,9 +61,9 @@ done-by P a w l (Refuses r) o k p q = p
 
 module _ (R : Rules) (g : ℕ → ℕ) (fit : Fits R g) (f : List ℕ) (a : Asking) where
   abbrev OnWatch : Link → Watch → Type 0
-  OnWatch l w = Watched f a (leftOn R g l) (copiesOf (l .core .job)) w
+  OnWatch l w = Watched (R .choice .role) f a (leftOn R g l) (copiesOf (l .core .job)) w
 
-  add-ok : (L n t : ℕ) (o : Out) (w : Watch) → Goes R g f a L n t o → OnWatch (o .link) w → Watched f a L n (add t (o .line) w)
+  add-ok : (L n t : ℕ) (o : Out) (w : Watch) → Goes R g f a L n t o → OnWatch (o .link) w → Watched (R .choice .role) f a L n (add t (o .line) w)
   add-ok L n t o (going u m) c k =
       record { soon = omega (arith, c .less, k .soon); more = c .more + k .more; mix = mix-append (c .mix) (k .mix); few = omega (arith, c .count, k .few) }
   add-ok L n t o restartedFirst c k = tt
@@ -78,7 +79,7 @@ module _ (R : Rules) (g : ℕ → ℕ) (fit : Fits R g) (f : List ℕ) (a : Aski
       }
 
   pub onward-ok : (s : Says) (L n t : ℕ) (o : Out) (w : Watch) → Outcome R g f a L n t s o → (Sends R f a (o .link) → OnWatch (o .link) w)
-      → Watched f a L n (onward s t (o .line) w)
+      → Watched (R .choice .role) f a L n (onward s t (o .line) w)
   onward-ok none L n t o w c k = add-ok L n t o w c (k (c .sends))
   onward-ok (says v) L n t o w c k = c .0
   onward-ok (both v u) L n t o w c k = absurd c
@@ -99,16 +100,16 @@ module _ (R : Rules) (g : ℕ → ℕ) (fit : Fits R g) (f : List ℕ) (a : Aski
       (λ e. taken-ok (c .what) l (λ z. watch R a z h) d (room-passed (c .line) (c .up) (checksOf l (c .what)) e .2) (watch-ok h))
 
 -- ---- from the bytes' shape to the frames found
-pub copies-are : {f : List ℕ} {n : ℕ} {l : List ℕ} → IsFrame f → Mix f n l → frames l ≡ replicate (length (frames l)) f
-copies-are {f} {n} i m = let e = mix-frames i m in e ∙ ap (λ (k : ℕ). replicate k f) (sym (ap length e ∙ length-replicate n f))
+pub copies-are : {role : Role} {f : List ℕ} {n : ℕ} {l : List ℕ} → IsFrame f → Mix role f n l → frames l ≡ replicate (length (frames l)) f
+copies-are {f = f} {n = n} i m = let e = mix-frames i m in e ∙ ap (λ (k : ℕ). replicate k f) (sym (ap length e ∙ length-replicate n f))
 
-pub copies-number : {f : List ℕ} {n : ℕ} {l : List ℕ} → IsFrame f → Mix f n l → length (frames l) ≡ n
-copies-number {f} {n} i m = ap length (mix-frames i m) ∙ length-replicate n f
+pub copies-number : {role : Role} {f : List ℕ} {n : ℕ} {l : List ℕ} → IsFrame f → Mix role f n l → length (frames l) ≡ n
+copies-number {f = f} {n = n} i m = ap length (mix-frames i m) ∙ length-replicate n f
 
-pub kept : (f : List ℕ) (a : Asking) (L : ℕ) (w : Watch) → IsFrame f → Watched f a L 0 w → Kept a f L w
-kept f a L (going t l) i k = record { soon = k .soon; copies = copies-are i (k .mix); few = omega (arith, k .few, copies-number i (k .mix)) }
-kept f a L restartedFirst i k = tt
-kept f a L (settled v t l) i k =
+pub kept : (role : Role) (f : List ℕ) (a : Asking) (L : ℕ) (w : Watch) → IsFrame f → Watched role f a L 0 w → Kept a f L w
+kept role f a L (going t l) i k = record { soon = k .soon; copies = copies-are i (k .mix); few = omega (arith, k .few, copies-number i (k .mix)) }
+kept role f a L restartedFirst i k = tt
+kept role f a L (settled v t l) i k =
     let e : k .more ≡ copiesIn v = omega (arith, k .count) in
     record { soon = k .soon; own = k .own; copies = mix-frames i (k .mix) ∙ ap (λ (n : ℕ). replicate n f) e; few = k .few; four = k .four }
 

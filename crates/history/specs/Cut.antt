@@ -1,11 +1,14 @@
 -- Bytes put out, cut from the front into single bytes and whole frames. Nothing here knows of the link.
 -- Assumes nothing.
 use Prim.Native.Nat.{ℕ, zero, suc, _+_}
+use mathlib.Core.Path.{_≡_}
 use mathlib.Core.List.{List, [], _∷_, _++_}
 use lib.Dec.{eqb}
 use lib.ListN.{length, take, drop, getD}
 use Rattle.refusals.specs.Pick.{pick}
-use Rattle.frame.specs.Frame.{START, ACK, NAK}
+use Rattle.frame.specs.Frame.{START, ACK, NAK, CAN}
+use Rattle.rules.specs.declared.Role.{Role}
+use Rattle.rules.specs.declared.Role.the-variants.{Module}
 
 pub data Piece : Type 0 where
   single : ℕ → Piece
@@ -40,10 +43,11 @@ singlesOf (whole f ∷ ps) = singlesOf ps
 abbrev pub singles : List ℕ → List ℕ
 singles l = singlesOf (cut l)
 
--- 06 or 15: what the link answers a frame with, and a restart
-pub data IsAnswer : ℕ → Type 0 where
-  ack : IsAnswer ACK
-  nak : IsAnswer NAK
+-- 06 or 15: what a link answers a frame with, and puts out at a restart; and 18, of a stand-in alone
+pub data IsAnswer (role : Role) : ℕ → Type 0 where
+  ack : IsAnswer role ACK
+  nak : IsAnswer role NAK
+  can : role ≡ Module → IsAnswer role CAN
 
 -- the bytes of the pieces, one behind the other
 abbrev pub joined : List Piece → List ℕ

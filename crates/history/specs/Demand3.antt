@@ -6,7 +6,7 @@ use mathlib.Core.Path.{_≡_}
 use mathlib.Core.List.{List}
 use lib.ListN.{length, replicate}
 use Rattle.frame.specs.Frame.{frameOf, REQ}
-use Rattle.rules.specs.Rules.{Rules}
+use Rattle.rules.specs.Rules.{Rules, standIn, rulesOf, base}
 use Rattle.link.specs.Out.{Out}
 use Rattle.job.specs.declared.job.Asking.{Asking}
 use Rattle.job.specs.declared.job.Asking.the-variants.{Plain, Asks}
@@ -75,7 +75,7 @@ pub record Demand3 (R : Rules) (a : Asking) (f : List ℕ) (bound : ℕ) (o : Ou
   pub equal : frames (linesFrom R o h) ≡ replicate (length (frames (linesFrom R o h))) f
   pub spent : Spent f (linesFrom R o h) (watched R a o h)
   -- and every other byte is an answer
-  pub answers : All IsAnswer (singles (linesFrom R o h))
+  pub answers : All (IsAnswer (R .choice .role)) (singles (linesFrom R o h))
   -- a history of that many accepted ticks has the verdict, where no accepted restart came before it
   pub comes : bound ≤ ticksIn R (o .link) h → IsOver (watched R a o h)
   -- and only an accepted restart ends the watch without one
@@ -102,6 +102,13 @@ sendBound = 15701
 -- a session: by the 20,700th
 abbrev pub sessionBound : ℕ
 sessionBound = 20700
+
+-- of the host, and of the stand-in
+abbrev pub HostDemand3 : Type 0
+HostDemand3 = EverySend base (λ size. sendBound) × EverySession base (λ size. sessionBound)
+
+abbrev pub StandInDemand3 : Type 0
+StandInDemand3 = EverySend (rulesOf standIn) (λ size. sendBound) × EverySession (rulesOf standIn) (λ size. sessionBound)
 
 -- Demand 3 in one sentence, of a send or session that was accepted and had so many ticks, with no restart: it has its verdict, one of its own
 -- and no second; the frames put out until another is accepted are the copies that the verdict says, at most four, and after a failure exactly four.

@@ -1,4 +1,4 @@
--- A history: any list of calls, from the link that opening gives.
+-- A history: any list of calls, from the link that opening gives; what was chosen is in the rules.
 -- Assumes nothing.
 use Prim.Native.Nat.{ℕ, _+_}
 use mathlib.Core.List.{List, [], _∷_}
@@ -18,7 +18,7 @@ run R l [] = l
 run R l (c ∷ h) = run R (next l (perform R l c)) h
 
 abbrev pub after : Rules → List Call → Link
-after R h = run R freshLink h
+after R h = run R (freshLink (R .choice)) h
 
 -- one for a tick
 abbrev pub oneTick : What → ℕ

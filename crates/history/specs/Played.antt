@@ -6,7 +6,7 @@ use mathlib.Core.List.{List, [], _∷_}
 use lib.ListN.{length}
 use Rattle.frame.specs.Bytes.{over}
 use Rattle.frame.specs.Frame.{frameOf, REQ}
-use Rattle.rules.specs.Rules.{Rules}
+use Rattle.rules.specs.Rules.{Rules, rulesOf}
 use Rattle.job.specs.declared.job.Asking.the-variants.{Plain, Asks}
 use Rattle.step.specs.Checks.{sendOwn, sessionOwn}
 use Rattle.step.specs.declared.checks.Checked.the-variants.{Passes}
@@ -56,10 +56,10 @@ pub data Promised (R : Rules) (l : Link) : Played → Link → Type 0 where
   restartCall : (line up : List ℕ) (r : Answered) (line′ up′ : List ℕ) → CallPromise Passes (restartOut l) l line up r line′ up′
       → Promised R l (played restart line up (byCall (r .answer)) line′ up′) (r .link)
 
--- calls one after the other, from a link to a link
-pub data Plays (R : Rules) : Link → List Played → Link → Type 0 where
-  noCalls : (l : Link) → Plays R l [] l
-  then : (l m n : Link) (p : Played) (ps : List Played) → Promised R l p m → Plays R m ps n → Plays R l (p ∷ ps) n
+-- calls one after the other, from a link to a link, each by the rules of what its own link was opened as
+pub data Plays : Link → List Played → Link → Type 0 where
+  noCalls : (l : Link) → Plays l [] l
+  then : (l m n : Link) (p : Played) (ps : List Played) → Promised (rulesOf (l .core .choice)) l p m → Plays m ps n → Plays l (p ∷ ps) n
 
 -- ---- the same calls in a history
 abbrev pub callOf : Played → Call

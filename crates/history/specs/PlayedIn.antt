@@ -6,7 +6,8 @@ use mathlib.Core.Path.{_≡_}
 use mathlib.Core.List.{List, [], _∷_}
 use lib.ListN.{length}
 use Rattle.frame.specs.Frame.{frameOf, REQ}
-use Rattle.rules.specs.Rules.{Rules}
+use Rattle.rules.specs.Rules.{Rules, rulesOf}
+use Rattle.rules.specs.declared.Choice.{Choice}
 use Rattle.job.specs.declared.job.Asking.the-variants.{Plain, Asks}
 use Rattle.step.specs.Core.{freshCore}
 use Rattle.step.specs.Checks.{sendOwn, sessionOwn}
@@ -32,8 +33,8 @@ abbrev pub parts : Core → List ℕ → List ℕ → Parts
 parts core body frame = record { core = core; body = body; frame = frame }
 
 -- those of a fresh link
-abbrev pub freshParts : Parts
-freshParts = parts freshCore noBody noFrame
+abbrev pub freshParts : Choice → Parts
+freshParts c = parts (freshCore c) noBody noFrame
 
 -- the link that they are
 abbrev pub wholeOf : Parts → Link
@@ -63,10 +64,11 @@ pub data PromisedIn (R : Rules) (core : Core) (body frame : List ℕ) : Played �
       → CallPromise Passes (restartOut (linkOf core body frame)) (linkOf core body frame) line up (putTogether r body′ frame′) line′ up′
       → PromisedIn R core body frame (played restart line up (byCall (r .answer)) line′ up′) (parts (r .core) body′ frame′)
 
--- calls in place one after the other, from parts to parts
-pub data PlaysIn (R : Rules) : Parts → List Played → Parts → Type 0 where
-  noCallsIn : (k : Parts) → PlaysIn R k [] k
-  thenIn : (k m n : Parts) (p : Played) (ps : List Played) → PromisedIn R (k .core) (k .body) (k .frame) p m → PlaysIn R m ps n → PlaysIn R k (p ∷ ps) n
+-- calls in place one after the other, from parts to parts, each by the rules of what was chosen
+pub data PlaysIn : Parts → List Played → Parts → Type 0 where
+  noCallsIn : (k : Parts) → PlaysIn k [] k
+  thenIn : (k m n : Parts) (p : Played) (ps : List Played) → PromisedIn (rulesOf (k .core .choice)) (k .core) (k .body) (k .frame) p m → PlaysIn m ps n
+      → PlaysIn k (p ∷ ps) n
 
 -- the same call with the same bytes lent
 pub record SameAsked (p q : Played) : Type 0 where

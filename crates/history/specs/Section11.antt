@@ -2,18 +2,22 @@
 -- Assumes nothing.
 use Prim.Native.Nat.{ℕ, _+_, _≤_, _<_}
 use mathlib.Core.Path.{_≡_}
+use mathlib.Core.Bool.{Bool, false}
 use mathlib.Core.List.{List, [], _∷_, _++_}
 use lib.ListN.{take}
-use Rattle.frame.specs.Frame.{ACK, NAK}
+use Rattle.frame.specs.Frame.{ACK, NAK, CAN}
 use Rattle.hearing.specs.declared.hearing.Hearing.{Hearing}
 use Rattle.hearing.specs.declared.hearing.Hearing.the-variants.{Hunting, Head, Body}
 use Rattle.hearing.specs.declared.hearing.End.{End}
 use Rattle.hearing.specs.declared.hearing.End.the-variants as end
 use Rattle.job.specs.Job.{nextCopy}
 use Rattle.job.specs.declared.job.Asking.{Asking}
+use Rattle.job.specs.declared.job.Job.{Job}
 use Rattle.job.specs.declared.job.Job.the-variants.{Due, Waiting}
+use Rattle.refusals.specs.Pick.{pick}
+use Rattle.rules.specs.Rules.{Rules}
 use Rattle.sending.specs.Events.{awaitedBy}
-use Rattle.reception.specs.Said.{saidEnd}
+use Rattle.reception.specs.Said.{cancels, saidEnd}
 use Rattle.report.specs.declared.Reception.the-variants as reception
 use Rattle.report.specs.declared.Reset.the-variants as reset
 use Rattle.report.specs.declared.Sending.{Sending}
@@ -54,17 +58,17 @@ NothingOrCopy (sending.Failed n) = ⊥
 NothingOrCopy sending.Abandoned = ⊥
 
 -- the byte ends the frame as e
-pub record EndsAs (l : Link) (o : Out) (e : End) : Type 0 where
+pub record EndsAs (R : Rules) (l : Link) (o : Out) (e : End) : Type 0 where
   pub hunting : o .link .core .hearing ≡ Hunting
   pub sending : NothingOrCopy (o .sending)
-  pub reception : o .reception ≡ (saidEnd e (awaitedBy (l .core .job))) .reception
+  pub reception : o .reception ≡ (saidEnd (R .choice .role) e (awaitedBy (l .core .job))) .reception
   -- a send that waits for its ACK waits on, whatever the byte is: a Checksum of 06, too
   pub waits : (a : Asking) (n t : ℕ) → l .core .job ≡ Waiting a n t → o .link .core .job ≡ Waiting a n t
 
 -- "Taking 06 inside a body as the awaited ACK." Inside a frame no byte is taken by the sender.
-pub data InFrame (l : Link) (o : Out) : Type 0 where
-  unended : GoesOn l o → InFrame l o
-  ends : (e : End) → EndsAs l o e → InFrame l o
+pub data InFrame (R : Rules) (l : Link) (o : Out) : Type 0 where
+  unended : GoesOn l o → InFrame R l o
+  ends : (e : End) → EndsAs R l o e → InFrame R l o
 
 -- ---- a tick inside a frame
 -- "Each tick inside a frame adds 1 to its clock. The tick that makes it 1,501 aborts the frame."
@@ -78,18 +82,23 @@ pub record GoesOut (a : Asking) (n : ℕ) (answer : List ℕ) (l : Link) (o : Ou
   pub sending : o .sending ≡ sending.Copy (nextCopy n)
   pub job : o .link .core .job ≡ Waiting a (nextCopy n) 0
 
--- what a frame's end is answered with: "Checksum right: put out 06. Checksum wrong: put out 15. Length below 3: no byte is put out."
-abbrev pub endAnswer : End → List ℕ
-endAnswer end.BadLength = []
-endAnswer end.BadSum = NAK ∷ []
-endAnswer end.Reserved = ACK ∷ []
-endAnswer (end.Request size) = ACK ∷ []
-endAnswer (end.Response size command) = ACK ∷ []
+-- a link of these rules with this job cancels a frame of Type 00 or 01: a stand-in that waits for an ACK
+abbrev pub cancelsNow : Rules → Job → Bool
+cancelsNow R j = cancels (R .choice .role) (awaitedBy j)
 
--- a byte inside a frame, with a copy due
-pub data DueByte (a : Asking) (n : ℕ) (l : Link) (o : Out) : Type 0 where
-  stays : GoesOn l o → DueByte a n l o
-  leaves : (e : End) → EndsAs l o e → GoesOut a n (endAnswer e) l o → DueByte a n l o
+-- what a frame's end is answered with: "Checksum right: put out 06. Checksum wrong: put out 15. Length below 3: no byte is put out."
+-- And a frame of Type 00 or 01 that is cancelled: 18.
+abbrev pub endAnswer : (cancelled : Bool) → End → List ℕ
+endAnswer x end.BadLength = []
+endAnswer x end.BadSum = NAK ∷ []
+endAnswer x end.Reserved = ACK ∷ []
+endAnswer x (end.Request size) = pick x (CAN ∷ []) (ACK ∷ [])
+endAnswer x (end.Response size command) = pick x (CAN ∷ []) (ACK ∷ [])
+
+-- a byte inside a frame, with a copy due: nothing is cancelled
+pub data DueByte (R : Rules) (a : Asking) (n : ℕ) (l : Link) (o : Out) : Type 0 where
+  stays : GoesOn l o → DueByte R a n l o
+  leaves : (e : End) → EndsAs R l o e → GoesOut a n (endAnswer false e) l o → DueByte R a n l o
 
 -- and a tick: the copy stays due inside the frame, or goes out by the abort
 pub data DueTick (a : Asking) (n : ℕ) (l : Link) (o : Out) : Type 0 where

@@ -2,6 +2,7 @@
 -- Assumes nothing.
 use Prim.Native.Nat.{ℕ, _≤_, _<_}
 use mathlib.Core.Path.{_≡_}
+use mathlib.Core.Bool.{Bool, true, false}
 use mathlib.Core.List.{List, [], _∷_, _++_}
 use lib.Dec.{eqb}
 use lib.ListN.{length, take}
@@ -22,8 +23,8 @@ use Rattle.link.specs.declared.link.Link.{Link}
 use Rattle.history.specs.Perform.{Call, perform}
 use Rattle.history.specs.History.{next, run, ticksIn, restartsIn}
 use Rattle.history.specs.Received.{takenBy, ifTaken, received}
-use Rattle.history.specs.Section11.{AtMostCopy}
-use Rattle.frame.specs.Frame.{START, REQ, ACK, NAK, MIN_LENGTH}
+use Rattle.history.specs.Section11.{cancelsNow, AtMostCopy}
+use Rattle.frame.specs.Frame.{START, REQ, ACK, NAK, CAN, MIN_LENGTH}
 
 -- ---- the bytes
 -- 01 and a Length below 3; or 01, Length, and then "Length − 1 body bytes, then Checksum".
@@ -76,30 +77,36 @@ pub record Ending (j : Job) (held : List ℕ) (r : Reception) (answer handed : L
 abbrev pub frameReport : ℕ → ℕ → Job → Reception
 frameReport kind command j = pick (eqb kind REQ) reception.Frame (pick (awaits command j) reception.Frame reception.StrayResponse)
 
+-- "Checksum right, Type 00 or 01: put out 06 and hand up the body." And of a stand-in that waits for an ACK: "answered with 18, reported as
+-- cancelled and not handed up".
+abbrev pub FrameEnds : (cancelled : Bool) → Job → List ℕ → ℕ → ℕ → List ℕ → Out → Type 0
+FrameEnds false j held kind command ps o = Ending j held (frameReport kind command j) (ACK ∷ []) (kind ∷ command ∷ ps) o
+FrameEnds true j held kind command ps o = Ending j held reception.Cancelled (CAN ∷ []) [] o
+
 -- The reader's answer to the bytes xs decides. LENGTH: "report bad length, hunt again. No byte is put out." SUM: "put out 15, report bad sum."
--- KIND: "put out 06, hand up nothing, report reserved." Parts: "put out 06 and hand up the body". It has no other answer to bytes that come whole.
-abbrev pub EndsBy : Job → List ℕ → List ℕ → Reading → Out → Type 0
-EndsBy j held xs (Refused refusal.Room) o = ⊥
-EndsBy j held xs (Refused refusal.Busy) o = ⊥
-EndsBy j held xs (Refused refusal.Kind) o = Ending j held reception.Reserved (ACK ∷ []) [] o
-EndsBy j held xs (Refused refusal.Long) o = ⊥
-EndsBy j held xs (Refused refusal.Short) o = ⊥
-EndsBy j held xs (Refused refusal.Start) o = ⊥
-EndsBy j held xs (Refused refusal.Length) o = Ending j held reception.BadLength [] [] o
-EndsBy j held xs (Refused refusal.Tail) o = ⊥
-EndsBy j held xs (Refused refusal.Sum) o = Ending j held reception.BadSum (NAK ∷ []) [] o
-EndsBy j held xs (Refused refusal.Form) o = ⊥
-EndsBy j held xs (Refused refusal.Range) o = ⊥
-EndsBy j held xs (Parts kind command n) o = Ending j held (frameReport kind command j) (ACK ∷ []) (kind ∷ command ∷ parametersOf xs n) o
+-- KIND: "put out 06, hand up nothing, report reserved." Parts: it is handed up, or cancelled. It has no other answer to bytes that come whole.
+abbrev pub EndsBy : Bool → Job → List ℕ → List ℕ → Reading → Out → Type 0
+EndsBy x j held xs (Refused refusal.Room) o = ⊥
+EndsBy x j held xs (Refused refusal.Busy) o = ⊥
+EndsBy x j held xs (Refused refusal.Kind) o = Ending j held reception.Reserved (ACK ∷ []) [] o
+EndsBy x j held xs (Refused refusal.Long) o = ⊥
+EndsBy x j held xs (Refused refusal.Short) o = ⊥
+EndsBy x j held xs (Refused refusal.Start) o = ⊥
+EndsBy x j held xs (Refused refusal.Length) o = Ending j held reception.BadLength [] [] o
+EndsBy x j held xs (Refused refusal.Tail) o = ⊥
+EndsBy x j held xs (Refused refusal.Sum) o = Ending j held reception.BadSum (NAK ∷ []) [] o
+EndsBy x j held xs (Refused refusal.Form) o = ⊥
+EndsBy x j held xs (Refused refusal.Range) o = ⊥
+EndsBy x j held xs (Parts kind command n) o = FrameEnds x j held kind command (parametersOf xs n) o
 
 -- of a call on the link l that takes the last of the bytes xs and gives o
-abbrev pub AsRead : Link → List ℕ → Reading → Out → Type 0
-AsRead l xs r o = EndsBy (l .core .job) (take (l .core .size) (l .frame)) xs r o
+abbrev pub AsRead : Rules → Link → List ℕ → Reading → Out → Type 0
+AsRead R l xs r o = EndsBy (cancelsNow R (l .core .job)) (l .core .job) (take (l .core .size) (l .frame)) xs r o
 
 -- a run that gives this took n bytes, and its last ended the frame as read
-pub record RunAsRead (l : Link) (xs : List ℕ) (n : ℕ) (t : Taken) : Type 0 where
+pub record RunAsRead (R : Rules) (l : Link) (xs : List ℕ) (n : ℕ) (t : Taken) : Type 0 where
   pub taken : t .taken ≡ n
-  pub out : AsRead l xs (read xs) (t .out)
+  pub out : AsRead R l xs (read xs) (t .out)
 
 -- The frame that `build` gives, byte by byte: what the byte of the Checksum does, on the link l that the first byte came to.
 pub record Receives (l : Link) (kind command : ℕ) (ps : List ℕ) (o : Out) : Type 0 where

@@ -4,12 +4,16 @@
 use Prim.Native.Nat.{ℕ}
 use lib.Dec.{eqb}
 use Rattle.refusals.specs.Pick.{pick}
-use Rattle.rules.specs.declared.Role.the-variants.{Host}
+use Rattle.rules.specs.declared.Role.the-variants.{Host, Module}
 use Rattle.rules.specs.declared.Choice.{Choice}
 
 -- a link opened without a choice is the host
 abbrev pub usual : Choice
 usual = record { role = Host }
+
+-- opened as the stand-in for a module
+abbrev pub standIn : Choice
+standIn = record { role = Module }
 
 -- why a copy is given up: 15 or 18 came, or its wait ran out
 pub data Cause : Type 0 where
