@@ -1,10 +1,10 @@
--- The bounds of demand 3 reached by one send and one session, by computation.
+-- The bounds of demand 3 reached by one send and one session, of the host and of the stand-in, by computation.
 -- Assumes nothing.
 use mathlib.Core.Path.{refl}
 use mathlib.Core.List.{[]}
 use Rattle.frame.specs.Bytes.{fold}
 use Rattle.frame.specs.Frame.{frameOf, REQ}
-use Rattle.rules.specs.Rules.{base}
+use Rattle.rules.specs.Rules.{standIn, rulesOf, base}
 use Rattle.link.specs.Link.{noBody, noFrame}
 use Rattle.link.specs.Out.{byteOut, tickOut, openOut}
 use Rattle.job.specs.declared.job.Asking.the-variants.{Plain, Asks}
@@ -22,3 +22,11 @@ send07-reaches = record { gave = outOf base (after base before) (send REQ 0x07 [
 pub session07-reaches : Reaches base before (session 0x07 []) (Asks 0x07) (longestSession base 5) frame07 (noResponse 4) sessionBound
 unfolding byteOut tickOut openOut frameOf fold noBody noFrame
 session07-reaches = record { gave = outOf base (after base before) (session 0x07 []); accepted = refl; verdict = refl }
+
+pub module-send07-reaches : Reaches (rulesOf standIn) before (send REQ 0x07 []) Plain (longestSend (rulesOf standIn) 5) frame07 (failed 4) sendBound
+unfolding byteOut tickOut openOut frameOf fold noBody noFrame
+module-send07-reaches = record { gave = outOf (rulesOf standIn) (after (rulesOf standIn) before) (send REQ 0x07 []); accepted = refl; verdict = refl }
+
+pub module-session07-reaches : Reaches (rulesOf standIn) before (session 0x07 []) (Asks 0x07) (longestSession (rulesOf standIn) 5) frame07 (noResponse 4) sessionBound
+unfolding byteOut tickOut openOut frameOf fold noBody noFrame
+module-session07-reaches = record { gave = outOf (rulesOf standIn) (after (rulesOf standIn) before) (session 0x07 []); accepted = refl; verdict = refl }

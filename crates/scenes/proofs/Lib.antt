@@ -3,3 +3,4 @@ pub mod Starred
 pub mod Computed
 pub mod Reach
 pub mod Machine
+pub mod StandIn

@@ -14,7 +14,8 @@ use borrow.Author.Tests.{lt-ltb, le-ltb, ne-eqb}
 use Rattle.refusals.proofs.Picks.{pick-ok}
 use Rattle.frame.specs.Bytes.{over}
 use Rattle.frame.specs.Frame.{REQ, RES, ACK, MAX_PARAMETERS, frameOf}
-use Rattle.rules.specs.Rules.{Rules, time, base}
+use Rattle.rules.specs.Rules.{Rules, time, rulesOf}
+use Rattle.rules.specs.declared.Choice.{Choice}
 use Rattle.job.specs.Job.{goesOn, still, putOut, fail}
 use Rattle.job.specs.Ticks.{onTick}
 use Rattle.reception.specs.Said.{saidOn}
@@ -58,11 +59,11 @@ add-add t u l m (settled x v n) = ap₂ (settled x) (sym (add-assoc t u v)) (sym
 module _ (R : Rules) (a : Asking) (f : List ℕ) where
   -- a link that holds the frame f
   abbrev at : Hearing → Job → Link
-  at h j = record { core = record { hearing = h; job = j; bad = 0; size = length f }; body = noBody; frame = over f noFrame }
+  at h j = record { core = record { hearing = h; job = j; bad = 0; size = length f; choice = R .choice }; body = noBody; frame = over f noFrame }
 
   -- what a tick gives on it
   abbrev gives : Hearing → Event → Job → Act → Out
-  gives h e j x = out noBody (over f noFrame) h (length f) (decided (saidOn e (awaitedBy j)) (sumsOn e 0) x)
+  gives h e j x = out noBody (over f noFrame) h (length f) (R .choice) (decided (saidOn (R .choice .role) e (awaitedBy j)) (sumsOn e 0) x)
 
   -- the calls h take t ticks and put out these bytes, with no verdict before their end; then the watch is w, over the calls after them
   record Leads (l : Link) (h : List Call) (w : List Call → Watch) (t : ℕ) (line : List ℕ) : Type 0 where
@@ -259,34 +260,35 @@ module _ (R : Rules) (backs : (n : ℕ) → 0 < R .back time n) where
             (then R a f (acknowledged R command f 4 (R .wait (length f) - 1)) (no-response R command f 4))));
       }
 
-base-backs : (n : ℕ) → 0 < base .back time n
-base-backs n = pick-ok (λ (k : ℕ). 0 < k) (eqb n 1) 100 _ (omega arith) (pick-ok (λ (k : ℕ). 0 < k) (eqb n 2) 1100 2100 (omega arith) (omega arith))
+rules-back : (c : Choice) (n : ℕ) → 0 < rulesOf c .back time n
+rules-back c n = pick-ok (λ (k : ℕ). 0 < k) (eqb n 1) 100 _ (omega arith) (pick-ok (λ (k : ℕ). 0 < k) (eqb n 2) 1100 2100 (omega arith) (omega arith))
 
+-- ---- document 01's rules, of the host and of the stand-in
 -- in numbers: the same calls for every frame
-pub longest-send-is : (size : ℕ) → longestSend base size ≡ (silence 1501 ++ (baseRound 99 ++ (baseRound 1099 ++ baseRound 2099))) ++ silence 1600
-longest-send-is size = refl
+pub longest-send-is : (c : Choice) (size : ℕ) → longestSend (rulesOf c) size ≡ (silence 1501 ++ (baseRound 99 ++ (baseRound 1099 ++ baseRound 2099))) ++ silence 1600
+longest-send-is c size = refl
 
-pub longest-session-is : (size : ℕ)
-    → longestSession base size ≡ (silence 1501 ++ (baseRound 99 ++ (baseRound 1099 ++ baseRound 2099))) ++ (silence 1599 ++ (lent (byte ACK) ∷ silence 5000))
-longest-session-is size = refl
+pub longest-session-is : (c : Choice) (size : ℕ)
+    → longestSession (rulesOf c) size ≡ (silence 1501 ++ (baseRound 99 ++ (baseRound 1099 ++ baseRound 2099))) ++ (silence 1599 ++ (lent (byte ACK) ∷ silence 5000))
+longest-session-is c size = refl
 
 -- Every send reaches its bound: failed, 4 copies, on exactly the 15,701st accepted tick.
-pub every-send-reaches : (kind command : ℕ) (ps : List ℕ) → kind ≤ RES → length ps ≤ MAX_PARAMETERS
-    → Reaches base before (send kind command ps) Plain (longestSend base (length (frameOf kind command ps))) (frameOf kind command ps) (failed 4) sendBound
-every-send-reaches kind command ps k n = send-reaches base base-backs kind command ps k n (omega arith)
+pub every-send-reaches : (c : Choice) (kind command : ℕ) (ps : List ℕ) → kind ≤ RES → length ps ≤ MAX_PARAMETERS
+    → Reaches (rulesOf c) before (send kind command ps) Plain (longestSend (rulesOf c) (length (frameOf kind command ps))) (frameOf kind command ps) (failed 4) sendBound
+every-send-reaches c kind command ps k n = send-reaches (rulesOf c) (rules-back c) kind command ps k n (omega arith)
 
 -- Every session reaches its bound: no response, 4 copies, on exactly the 20,700th accepted tick.
-pub every-session-reaches : (command : ℕ) (ps : List ℕ) → length ps ≤ MAX_PARAMETERS
-    → Reaches base before (sessionCall command ps) (Asks command) (longestSession base (length (frameOf REQ command ps))) (frameOf REQ command ps) (noResponse 4) sessionBound
-every-session-reaches command ps n = session-reaches base base-backs command ps n (omega arith)
+pub every-session-reaches : (c : Choice) (command : ℕ) (ps : List ℕ) → length ps ≤ MAX_PARAMETERS
+    → Reaches (rulesOf c) before (sessionCall command ps) (Asks command) (longestSession (rulesOf c) (length (frameOf REQ command ps))) (frameOf REQ command ps) (noResponse 4) sessionBound
+every-session-reaches c command ps n = session-reaches (rulesOf c) (rules-back c) command ps n (omega arith)
 
--- So demand 3 holds with no smaller bound.
-pub send-bound-least : (b : ℕ) → EverySend base (λ size. b) → sendBound ≤ b
-send-bound-least b d =
-    let r = every-send-reaches 0 7 [] (omega arith) (omega arith) in
-    (subst (Kept Plain (frameOf 0 7 []) b) (r .verdict) ((d before (longestSend base 5) 258 254 0 7 [] (r .gave) (r .accepted)) .kept)) .soon
+-- So demand 3 holds with no smaller bound, of either end.
+pub send-bound-least : (c : Choice) (b : ℕ) → EverySend (rulesOf c) (λ size. b) → sendBound ≤ b
+send-bound-least c b d =
+    let r = every-send-reaches c 0 7 [] (omega arith) (omega arith) in
+    (subst (Kept Plain (frameOf 0 7 []) b) (r .verdict) ((d before (longestSend (rulesOf c) 5) 258 254 0 7 [] (r .gave) (r .accepted)) .kept)) .soon
 
-pub session-bound-least : (b : ℕ) → EverySession base (λ size. b) → sessionBound ≤ b
-session-bound-least b d =
-    let r = every-session-reaches 7 [] (omega arith) in
-    (subst (Kept (Asks 7) (frameOf 0 7 []) b) (r .verdict) ((d before (longestSession base 5) 258 254 7 [] (r .gave) (r .accepted)) .kept)) .soon
+pub session-bound-least : (c : Choice) (b : ℕ) → EverySession (rulesOf c) (λ size. b) → sessionBound ≤ b
+session-bound-least c b d =
+    let r = every-session-reaches c 7 [] (omega arith) in
+    (subst (Kept (Asks 7) (frameOf 0 7 []) b) (r .verdict) ((d before (longestSession (rulesOf c) 5) 258 254 7 [] (r .gave) (r .accepted)) .kept)) .soon

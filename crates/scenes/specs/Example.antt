@@ -1,4 +1,4 @@
--- An example of document 01: a question to its definitions, and the answer that the document prints.
+-- An example: a question to the definitions, and the answer that the document prints.
 -- Assumes nothing.
 use Prim.Native.Nat.{ℕ}
 use mathlib.Core.Path.{_≡_}
@@ -11,7 +11,7 @@ use Rattle.reading.specs.Reader as reader
 use Rattle.reading.specs.declared.reader.Reading.{Reading}
 use Rattle.units.specs.Units.{ticksOf}
 use Rattle.units.specs.declared.Millis.{Millis}
-use Rattle.rules.specs.Rules.{base}
+use Rattle.rules.specs.Rules.{standIn, rulesOf, base}
 use Rattle.nodes.specs.Nodes as nodes
 use Rattle.timeouts.specs.Timeouts.{SET_TIMEOUTS, ticksFor, setOf}
 use Rattle.nodes.specs.declared.NodeList.{NodeList}
@@ -27,8 +27,9 @@ pub data Question : Type 0 where
   read : (bytes : List ℕ) → Question
   -- list the nodes of a body into lent bytes
   list : (body lent : List ℕ) → Question
-  -- play a scene
+  -- play a scene, with the host and with the stand-in
   play : (calls : List Call) → Question
+  playStandIn : (calls : List Call) → Question
 
 pub data Answer : Type 0 where
   -- what is answered, and the lent bytes after it
@@ -49,6 +50,7 @@ answerTo (read bytes) = reading (reader.read bytes)
 answerTo (list body lent) =
     listed (nodes.nodeListOf body (length lent)) (nodes.listLeft (nodes.nodeListOf body (length lent)) (nodes.nodesOf body) lent)
 answerTo (play calls) = shows (seen base calls)
+answerTo (playStandIn calls) = shows (seen (rulesOf standIn) calls)
 
 -- a row of the table
 pub record Example : Type 0 where

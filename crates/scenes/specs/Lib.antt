@@ -3,3 +3,4 @@ pub mod Example
 pub mod Table
 pub mod Longest
 pub mod Machine
+pub mod StandIn

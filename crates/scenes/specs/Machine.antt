@@ -8,7 +8,10 @@ use mathlib.Core.Bool.{Bool, true, false}
 use mathlib.Core.List.{List, [], _∷_}
 use lib.Bits.{bitXor}
 use Rattle.refusals.specs.Pick.{pick}
-use Rattle.rules.specs.Rules.{base}
+use Rattle.rules.specs.Rules.{rulesOf}
+use Rattle.rules.specs.declared.Choice.{Choice}
+use Rattle.rules.specs.declared.Role.{Role}
+use Rattle.rules.specs.declared.Role.the-variants.{Host, Module}
 use Rattle.hearing.specs.Hearing.{hearByte, hearTick}
 use Rattle.hearing.specs.declared.hearing.Partial.{Partial}
 use Rattle.hearing.specs.declared.hearing.Hearing.{Hearing}
@@ -44,7 +47,7 @@ use Rattle.sending.specs.Events.{onEvent, onRestart}
 use Rattle.step.specs.Core.{freshCore}
 use Rattle.step.specs.Deciding.{restarting}
 use Rattle.step.specs.declared.deciding.Outcome.{Outcome}
-use Rattle.link.specs.Link.{millis, freshLink}
+use Rattle.link.specs.Link.{millis, noBody, noFrame}
 use Rattle.link.specs.Out.{restartOut}
 use Rattle.link.specs.declared.link.Link.{Link}
 
@@ -64,21 +67,21 @@ pub data Does : Type 0 where
 abbrev pub acts : Act → Does
 acts x = does (x .job) (x .sending) (x .session) (x .reset) (x .copy)
 
--- by the definitions that the link's promises cite, with a held frame of so many bytes
-abbrev pub jobDoes : ℕ → JobEvent → Job → Does
-jobDoes size (on e) j = acts (onEvent base size e j)
-jobDoes size (opens hunting a) j = pick (isOpen j) busy (acts (start hunting a 0))
-jobDoes size restarts j = acts (onRestart j)
+-- by the definitions that the link's promises cite, whatever was chosen, with a held frame of so many bytes
+abbrev pub jobDoes : Choice → ℕ → JobEvent → Job → Does
+jobDoes o size (on e) j = acts (onEvent (rulesOf o) size e j)
+jobDoes o size (opens hunting a) j = pick (isOpen j) busy (acts (start hunting a 0))
+jobDoes o size restarts j = acts (onRestart j)
 
 pub data JobRow : Type 0 where
   row : Job → JobEvent → Does → JobRow
 
-abbrev pub RowHolds : ℕ → JobRow → Type 0
-RowHolds size (row j x d) = jobDoes size x j ≡ d
+abbrev pub RowHolds : Choice → ℕ → JobRow → Type 0
+RowHolds o size (row j x d) = jobDoes o size x j ≡ d
 
-abbrev pub AllRows : ℕ → List JobRow → Type 0
-AllRows size [] = Unit {0}
-AllRows size (r ∷ rs) = RowHolds size r × AllRows size rs
+abbrev pub AllRows : Choice → ℕ → List JobRow → Type 0
+AllRows o size [] = Unit {0}
+AllRows o size (r ∷ rs) = RowHolds o size r × AllRows o size rs
 
 -- ---- the job's rows, by state: what does something first
 abbrev pub idleRows : Asking → (at k f : ℕ) → List JobRow
@@ -241,31 +244,31 @@ pub data Hears : Type 0 where
 abbrev pub heardAs : Hearing → Event → Said → Sums → Hears
 heardAs h e q z = hears h (event e) (q .reception) (q .reply) (q .up) (z .bad) (z .reset)
 
-abbrev pub heardBy : Awaited → ℕ → Heard → Hears
-heardBy w bad x = heardAs (x .hearing) (x .event) (saidOn (x .event) w) (sumsOn (x .event) bad)
+abbrev pub heardBy : Role → Awaited → ℕ → Heard → Hears
+heardBy role w bad x = heardAs (x .hearing) (x .event) (saidOn role (x .event) w) (sumsOn (x .event) bad)
 
 abbrev pub heardFresh : Hearing → Outcome → Hears
 heardFresh h o = hears h fresh (o .reception) (o .reply) (o .up) (o .bad) (o .reset)
 
 -- a link that hears so; of the rest, a restart looks at the job alone
-abbrev pub hearingSo : Hearing → Link
-hearingSo h = record { core = record { hearing = h; job = Idle; bad = 0; size = 0 }; body = freshLink .body; frame = freshLink .frame }
+abbrev pub hearingSo : Role → Hearing → Link
+hearingSo role h = record { core = record { hearing = h; job = Idle; bad = 0; size = 0; choice = record { role = role } }; body = noBody; frame = noFrame }
 
--- by the definitions that the link's promises cite, with what is awaited and the run of bad sums
-abbrev pub hearingDoes : Awaited → ℕ → Brings → Hearing → Hears
-hearingDoes w bad (byte b) h = heardBy w bad (hearByte b h)
-hearingDoes w bad tick h = heardBy w bad (hearTick h)
-hearingDoes w bad restart h = heardFresh (restartOut (hearingSo h) .link .core .hearing) (restarting Idle)
+-- by the definitions that the link's promises cite, with the role, what is awaited and the run of bad sums
+abbrev pub hearingDoes : Role → Awaited → ℕ → Brings → Hearing → Hears
+hearingDoes role w bad (byte b) h = heardBy role w bad (hearByte b h)
+hearingDoes role w bad tick h = heardBy role w bad (hearTick h)
+hearingDoes role w bad restart h = heardFresh (restartOut (hearingSo role h) .link .core .hearing) (restarting Idle)
 
 pub data HearingRow : Type 0 where
   hear : Hearing → Brings → Awaited → (bad : ℕ) → Hears → HearingRow
 
-abbrev pub HearHolds : HearingRow → Type 0
-HearHolds (hear h x w bad d) = hearingDoes w bad x h ≡ d
+abbrev pub HearHolds : Role → HearingRow → Type 0
+HearHolds role (hear h x w bad d) = hearingDoes role w bad x h ≡ d
 
-abbrev pub AllHear : List HearingRow → Type 0
-AllHear [] = Unit {0}
-AllHear (r ∷ rs) = HearHolds r × AllHear rs
+abbrev pub AllHear : Role → List HearingRow → Type 0
+AllHear role [] = Unit {0}
+AllHear role (r ∷ rs) = HearHolds role r × AllHear role rs
 
 -- a half-received frame: its clock, how many body bytes it has and how many have come, the Checksum that they give so far, Type and Command
 abbrev pub partial : (clock size at sum kind command : ℕ) → Partial
@@ -303,16 +306,33 @@ headRows w bad c =
     ∷ hear (Head c) restart w bad (hears Hunting fresh reception.Nothing reply.Nak 0 0 reset.Nothing)
     ∷ []
 
-abbrev pub bodyRows : Awaited → (bad c k at s t m b : ℕ) → List HearingRow
-bodyRows w bad c k at s t m b =
+abbrev pub bodyRows : Awaited → (bad c s t m b : ℕ) → List HearingRow
+bodyRows w bad c s t m b =
     hear (Body (partial c 2 0 s t m)) (byte b) w bad (hears (Body (partial c 2 1 (bitXor s b) b m)) (event (Kept 0)) reception.Nothing reply.Silent 0 bad reset.Nothing)
     ∷ hear (Body (partial c 2 1 s t m)) (byte b) w bad (hears (Body (partial c 2 2 (bitXor s b) t b)) (event (Kept 1)) reception.Nothing reply.Silent 0 bad reset.Nothing)
     ∷ hear (Body (partial c 254 253 s t m)) (byte b) w bad (hears (Body (partial c 254 254 (bitXor s b) t m)) (event (Kept 253)) reception.Nothing reply.Silent 0 bad reset.Nothing)
-    ∷ hear (Body (partial c 2 2 0xFB 0x00 m)) (byte 0xFB) w bad (hears Hunting (event (Ended (Request 2))) reception.Frame reply.Ack 2 0 reset.Nothing)
+    ∷ []
+
+-- a frame of Type 00 or 01, with what is awaited: of the host, and of a stand-in that awaits no ACK
+abbrev pub frameRows : Awaited → (bad c m : ℕ) → List HearingRow
+frameRows w bad c m =
+    hear (Body (partial c 2 2 0xFB 0x00 m)) (byte 0xFB) w bad (hears Hunting (event (Ended (Request 2))) reception.Frame reply.Ack 2 0 reset.Nothing)
     ∷ hear (Body (partial c 2 2 0xFA 0x01 0x07)) (byte 0xFA) (awaited.Response 0x07) bad (hears Hunting (event (Ended (Response 2 0x07))) reception.Frame reply.Ack 2 0 reset.Nothing)
     ∷ hear (Body (partial c 2 2 0xFA 0x01 0x07)) (byte 0xFA) (awaited.Response 0x08) bad (hears Hunting (event (Ended (Response 2 0x07))) reception.StrayResponse reply.Ack 2 0 reset.Nothing)
     ∷ hear (Body (partial c 2 2 0xFA 0x01 0x07)) (byte 0xFA) awaited.Nothing bad (hears Hunting (event (Ended (Response 2 0x07))) reception.StrayResponse reply.Ack 2 0 reset.Nothing)
-    ∷ hear (Body (partial c 2 2 0xF9 0x02 m)) (byte 0xF9) w bad (hears Hunting (event (Ended Reserved)) reception.Reserved reply.Ack 0 0 reset.Nothing)
+    ∷ []
+
+-- and of a stand-in that awaits its ACK
+abbrev pub cancelRows : (bad c m : ℕ) → List HearingRow
+cancelRows bad c m =
+    hear (Body (partial c 2 2 0xFB 0x00 m)) (byte 0xFB) awaited.Ack bad (hears Hunting (event (Ended (Request 2))) reception.Cancelled reply.Can 0 0 reset.Nothing)
+    ∷ hear (Body (partial c 2 2 0xFA 0x01 m)) (byte 0xFA) awaited.Ack bad (hears Hunting (event (Ended (Response 2 m))) reception.Cancelled reply.Can 0 0 reset.Nothing)
+    ∷ []
+
+-- any other end of the frame
+abbrev pub endRows : Awaited → (bad c k at s t m : ℕ) → List HearingRow
+endRows w bad c k at s t m =
+    hear (Body (partial c 2 2 0xF9 0x02 m)) (byte 0xF9) w bad (hears Hunting (event (Ended Reserved)) reception.Reserved reply.Ack 0 0 reset.Nothing)
     ∷ hear (Body (partial c 2 2 0x04 0xFF m)) (byte 0x04) w bad (hears Hunting (event (Ended Reserved)) reception.Reserved reply.Ack 0 0 reset.Nothing)
     ∷ hear (Body (partial c 2 2 0xFB t m)) (byte 0xFA) w 0 (hears Hunting (event (Ended BadSum)) reception.BadSum reply.Nak 0 1 reset.Nothing)
     ∷ hear (Body (partial c 2 2 0xFB t m)) (byte 0xFA) w 1 (hears Hunting (event (Ended BadSum)) reception.BadSum reply.Nak 0 2 reset.Nothing)
@@ -323,17 +343,26 @@ bodyRows w bad c k at s t m b =
     ∷ []
 
 -- ---- a fresh link
-abbrev pub Starts : Type 0
-Starts = (freshCore .hearing ≡ Hunting) × (freshCore .job ≡ Idle)
+abbrev pub Starts : Choice → Type 0
+Starts o = (freshCore o .hearing ≡ Hunting) × (freshCore o .job ≡ Idle)
 
 -- ---- both tables, whatever the variables are
-abbrev pub JobTable : (size : ℕ) (a b : Asking) (c n e l at k f : ℕ) (hunting : Bool) → Type 0
-JobTable size a b c n e l at k f hunting =
-    AllRows size (idleRows a at k f)
-    × (AllRows size (dueRows a b c n at k f hunting)
-    × (AllRows size (waitingRows a b c n e at k f hunting)
-    × (AllRows size (backingOffRows a b c n l at k f hunting)
-    × AllRows size (awaitingRows b c n e at k hunting))))
+abbrev pub JobTable : (o : Choice) (size : ℕ) (a b : Asking) (c n e l at k f : ℕ) (hunting : Bool) → Type 0
+JobTable o size a b c n e l at k f hunting =
+    AllRows o size (idleRows a at k f)
+    × (AllRows o size (dueRows a b c n at k f hunting)
+    × (AllRows o size (waitingRows a b c n e at k f hunting)
+    × (AllRows o size (backingOffRows a b c n l at k f hunting)
+    × AllRows o size (awaitingRows b c n e at k hunting))))
 
-abbrev pub HearingTable : Awaited → (bad c k at s t m b : ℕ) → Type 0
-HearingTable w bad c k at s t m b = AllHear (huntingRows w bad) × (AllHear (headRows w bad c) × AllHear (bodyRows w bad c k at s t m b))
+-- and whoever hears: but for the frames of Type 00 and 01 the role makes no difference, and there only where a stand-in awaits an ACK
+abbrev pub HearingTable : Role → Awaited → (bad c k at s t m b v : ℕ) → Type 0
+HearingTable role w bad c k at s t m b v =
+    AllHear role (huntingRows w bad)
+    × (AllHear role (headRows w bad c)
+    × (AllHear role (bodyRows w bad c s t m b)
+    × (AllHear Host (frameRows w bad c m)
+    × (AllHear Module (frameRows awaited.Nothing bad c m)
+    × (AllHear Module (frameRows (awaited.Response v) bad c m)
+    × (AllHear Module (cancelRows bad c m)
+    × AllHear role (endRows w bad c k at s t m)))))))

@@ -45,4 +45,4 @@ seenFrom R l t (c ∷ h) =
 
 -- from opening
 abbrev pub seen : Rules → List Call → List Seen
-seen R h = seenFrom R freshLink 0 h
+seen R h = seenFrom R (freshLink (R .choice)) 0 h
