@@ -33,7 +33,7 @@ use Rattle.capabilities.specs.declared.Capabilities.the-variants as capa
 use Rattle.capabilities.specs.declared.Support.{Support}
 use Rattle.capabilities.specs.declared.Support.the-variants as support
 use Rattle.masks.proofs.Layouts.{bytes-from, unmet}
-use Rattle.masks.proofs.Theorems.{Stands, write-determined, write-told, write-taken, write-refused, refuses-alike, written-stands}
+use Rattle.masks.proofs.Theorems.{write-determined, write-told, write-taken, write-refused, refuses-alike, written-stands}
 use Rattle.capabilities.proofs.Layouts.{of-capabilities, capabilities-yes, answer-by}
 use Rattle.capabilities.proofs.Writing.{body-length, long-refused}
 use Rattle.masks.proofs.Marked.{marks-one, marks-most, member-to, member-from, marked-rising}
@@ -161,10 +161,10 @@ module _ (version revision manufacturer productType productId : ℕ) (mask : Lis
         λ (h, e). taken-by ∙ rw (le-ltb 42 (length whole) (omega arith), e),
       )
 
-  pub mask-long : 32 < length mask → isCapabilities whole ≡ false
+  mask-long : 32 < length mask → isCapabilities whole ≡ false
   mask-long h = long-refused whole (omega (arith, body-length version revision manufacturer productType productId mask))
 
-  pub mask-marked : isMarked mask 256 ≡ true → isCapabilities whole ≡ false
+  mask-marked : isMarked mask 256 ≡ true → isCapabilities whole ≡ false
   mask-marked e = taken-by ∙ rw e (neither-by (ltb 42 (length whole)))
     where
       neither-by : (t : Bool) → pick t false false ≡ false

@@ -2,7 +2,6 @@
 use frame::MAX_BODY;
 use frame::lay;
 use refusals::Refusal;
-ghost use mathlib.Core.Path.{_≡_};
 ghost use Rattle.masks.specs.Written.{Write};
 ghost use Rattle.masks.specs.Contracts.{carried};
 

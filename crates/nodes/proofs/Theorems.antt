@@ -33,7 +33,7 @@ use Rattle.nodes.specs.declared.NodeList.{NodeList}
 use Rattle.nodes.specs.declared.NodeList.the-variants as nodes
 use Rattle.nodes.proofs.Layouts.{node-list-yes}
 use Rattle.nodes.proofs.Writing.{body-length, odd-refused}
-use Rattle.masks.proofs.Theorems.{Stands, write-determined, write-told, write-taken, write-refused, refuses-alike, written-stands}
+use Rattle.masks.proofs.Theorems.{write-determined, write-told, write-taken, write-refused, refuses-alike, written-stands}
 use Rattle.masks.proofs.Marked.{marks-one, member-to, member-from, marked-rising, marked-none}
 use Rattle.masks.proofs.Masks.{marked-le}
 

@@ -8,7 +8,6 @@ use frame::lay;
 use frame::least;
 use masks::Written;
 use masks::write_body;
-ghost use mathlib.Core.Path.{_≡_};
 ghost use Rattle.nodes.specs.Writer.{nodeBody, WriteNodes};
 
 // Where the mask begins: behind Type, Command, version, capabilities and the count byte.

@@ -33,7 +33,7 @@ use Rattle.reading.proofs.Theorems.{build-reads}
 use Rattle.masks.specs.Written.{writtenTold, Write}
 use Rattle.masks.specs.declared.written.Written.{Written}
 use Rattle.masks.specs.declared.written.Written.the-variants as written
-use Rattle.masks.proofs.Theorems.{Stands, write-taken, refuses-alike, written-stands}
+use Rattle.masks.proofs.Theorems.{write-taken, refuses-alike, written-stands}
 use Rattle.units.specs.Units.{ticksOf}
 use Rattle.units.specs.declared.Millis.{Millis}
 use Rattle.units.specs.declared.Ticks10.{Ticks10}

@@ -8,7 +8,6 @@ use refusals::Refusal;
 use units::Converted;
 use units::Millis;
 use units::ticks_of;
-ghost use mathlib.Core.Path.{_≡_};
 ghost use Rattle.timeouts.specs.Writer.{WriteTimeouts};
 
 // Writes the body with these two times over the first of the lent bytes. Bytes beyond it stay; a refusal leaves all of them.
