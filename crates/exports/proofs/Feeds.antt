@@ -13,7 +13,7 @@ use native.Mathlib.Numerals.{add-one}
 use native.Mathlib.Omega.{arith}
 use lib.ListN.{length, drop, getD, drop-of-length-le}
 use lib.Seq.{drop-cons}
-use Rattle.rules.specs.Rules.{base}
+use Rattle.rules.specs.Rules.{rulesOf}
 use Rattle.link.specs.Out.{Out, byteOut, tickOut, openOut}
 use Rattle.step.specs.Checks.{checks, sessionOwn}
 use Rattle.step.specs.declared.checks.Checked.{Checked}
@@ -54,11 +54,11 @@ module _ (line₀ up₀ : List ℕ) (l : Link) (line up : List ℕ) (s : ℕ) wh
 
     pub bytes-on : (line′ up′ : List ℕ) (r : Answered) (n m : ℕ) → i < length bytes
         → length line ≡ length line₀ → length up ≡ length up₀
-        → CallPromise Passes (byteOut base l (getD bytes i 0)) l line up r line′ up′ → n ≡ mix s m → m ≡ answerNumber (r .answer)
+        → CallPromise Passes (byteOut (rulesOf (l .core .choice)) l (getD bytes i 0)) l line up r line′ up′ → n ≡ mix s m → m ≡ answerNumber (r .answer)
         → bytesFed k f (drop i bytes) ≡ bytesFed k (at (r .link) line′ up′ n) (drop (i + 1) bytes)
     bytes-on line′ up′ r n m h p q x e a =
         bytes-more h
-        ∙ ap (λ (g : Fed). bytesFed k g (drop (i + 1) bytes)) (fed Passes k (byteOut base l (getD bytes i 0)) l line up line′ up′ r s n m (same-checks Passes line up line₀ up₀ p q) x e a)
+        ∙ ap (λ (g : Fed). bytesFed k g (drop (i + 1) bytes)) (fed Passes k (byteOut (rulesOf (l .core .choice)) l (getD bytes i 0)) l line up line′ up′ r s n m (same-checks Passes line up line₀ up₀ p q) x e a)
 
   module _ (i n : ℕ) where
     pub ticks-start : i ≡ 0 → ticksFed k f n ≡ ticksFed k f (n - i)
@@ -74,11 +74,11 @@ module _ (line₀ up₀ : List ℕ) (l : Link) (line up : List ℕ) (s : ℕ) wh
 
     pub ticks-on : (line′ up′ : List ℕ) (r : Answered) (t m : ℕ) → i < n
         → length line ≡ length line₀ → length up ≡ length up₀
-        → CallPromise Passes (tickOut base l) l line up r line′ up′ → t ≡ mix s m → m ≡ answerNumber (r .answer)
+        → CallPromise Passes (tickOut (rulesOf (l .core .choice)) l) l line up r line′ up′ → t ≡ mix s m → m ≡ answerNumber (r .answer)
         → ticksFed k f (n - i) ≡ ticksFed k (at (r .link) line′ up′ t) (n - (i + 1))
     ticks-on line′ up′ r t m h p q x e a =
         ticks-more h
-        ∙ ap (λ (g : Fed). ticksFed k g (n - (i + 1))) (fed Passes k (tickOut base l) l line up line′ up′ r s t m (same-checks Passes line up line₀ up₀ p q) x e a)
+        ∙ ap (λ (g : Fed). ticksFed k g (n - (i + 1))) (fed Passes k (tickOut (rulesOf (l .core .choice)) l) l line up line′ up′ r s t m (same-checks Passes line up line₀ up₀ p q) x e a)
 
 -- what is reached is what is answered
 pub ended : (f : Fed) (l : Link) (line up : List ℕ) (s : ℕ) → f ≡ at l line up s → FedTo f s line up

@@ -11,7 +11,7 @@ use lib.Dec.{eqb}
 use lib.ListN.{length, take, drop, length-drop, length-take, drop-of-length-le}
 use lib.Seq.{drop-drop}
 use borrow.Author.Tests.{eq-eqb, ne-eqb}
-use Rattle.rules.specs.Rules.{base}
+use Rattle.rules.specs.Rules.{Rules, rulesOf}
 use Rattle.link.specs.Out.{Out, Taken, byteOut, news, runFrom, runOut, quiet}
 use Rattle.step.specs.Checks.{checks}
 use Rattle.step.specs.declared.checks.Checked.{Checked}
@@ -27,16 +27,16 @@ use Rattle.refusals.proofs.Picks.{pick-ok}
 abbrev pub fed : Link → List ℕ → List ℕ → ℕ → Fed
 fed = at
 
-from-most : (o : Out) (n : ℕ) (bs : List ℕ) → runFrom base o n bs .taken ≤ n + length bs
+from-most : (R : Rules) (o : Out) (n : ℕ) (bs : List ℕ) → runFrom R o n bs .taken ≤ n + length bs
 unfolding runFrom
-from-most o n [] = omega arith
-from-most o n (b ∷ bs) =
-    let next = byteOut base (o .link) b in
-    let rest = from-most next (n + 1) bs in
-    pick-ok (λ (t : Taken). t .taken ≤ n + suc (length bs)) (news next) (record { out = next; taken = n + 1 }) (runFrom base next (n + 1) bs) (omega arith) (omega (arith, rest))
+from-most R o n [] = omega arith
+from-most R o n (b ∷ bs) =
+    let next = byteOut R (o .link) b in
+    let rest = from-most R next (n + 1) bs in
+    pick-ok (λ (t : Taken). t .taken ≤ n + suc (length bs)) (news next) (record { out = next; taken = n + 1 }) (runFrom R next (n + 1) bs) (omega arith) (omega (arith, rest))
 
-pub taken-most : (k : Checked) (l : Link) (bs : List ℕ) → runTaken (ran k (runOut base l bs) l .answer) ≤ length bs
-taken-most Passes l bs = let h = from-most (quiet l) 0 bs in omega (arith, h)
+pub taken-most : (k : Checked) (l : Link) (bs : List ℕ) → runTaken (ran k (runOut (rulesOf (l .core .choice)) l bs) l .answer) ≤ length bs
+taken-most Passes l bs = let h = from-most (rulesOf (l .core .choice)) (quiet l) 0 bs in omega (arith, h)
 taken-most (Refuses x) l bs = omega arith
 
 -- what the code hands to a run: from i to i + n, where n is the least of what is left and most
@@ -65,7 +65,7 @@ module _ (line₀ up₀ : List ℕ) (most : ℕ) (input : List ℕ) where
     runs-end zero h = refl
     runs-end (suc n) h = simp (drop-of-length-le input h)
 
-    module _ (bytes line′ up′ : List ℕ) (r : Ran) (number taken n m : ℕ) (is : bytes ≡ part most rest) (p : length line ≡ length line₀) (q : length up ≡ length up₀) (x : RunPromise (runOut base l bytes) l line up r line′ up′) (a : number ≡ runNumber (r .answer)) (t : taken ≡ runTaken (r .answer)) (e : n ≡ mix s number) (g : m ≡ mix n taken) where
+    module _ (bytes line′ up′ : List ℕ) (r : Ran) (number taken n m : ℕ) (is : bytes ≡ part most rest) (p : length line ≡ length line₀) (q : length up ≡ length up₀) (x : RunPromise (runOut (rulesOf (l .core .choice)) l bytes) l line up r line′ up′) (a : number ≡ runNumber (r .answer)) (t : taken ≡ runTaken (r .answer)) (e : n ≡ mix s number) (g : m ≡ mix n taken) where
       abbrev own : Checked
       own = checks line up Passes
 

@@ -8,7 +8,7 @@ use lib.Dec.{eqb}
 use lib.ListN.{length, take, drop}
 use Rattle.refusals.specs.Pick.{pick}
 use Rattle.frame.specs.Frame.{frameOf}
-use Rattle.rules.specs.Rules.{base}
+use Rattle.rules.specs.Rules.{usual, rulesOf}
 use Rattle.link.specs.Link.{freshLink}
 use Rattle.link.specs.Out.{Out, byteOut, tickOut, openOut, runOut}
 use Rattle.step.specs.Checks.{checks, sessionOwn}
@@ -31,7 +31,7 @@ abbrev pub at : Link → List ℕ → List ℕ → ℕ → Fed
 at l line up s = record { link = l; line = line; up = up; sum = s }
 
 abbrev pub opened : List ℕ → List ℕ → Fed
-opened line up = at freshLink line up 0
+opened line up = at (freshLink usual) line up 0
 
 -- after a call that answers r and gives o under these checks, with n mixed into the number
 abbrev pub afterAll : Checked → Out → Link → ℕ → Fed → Fed
@@ -43,18 +43,18 @@ afterCall k o f =
 
 -- Every call checks for ROOM, and none changes a buffer's length: so k, of the buffers as they were lent, is for all calls.
 abbrev pub byteFed : Checked → Fed → ℕ → Fed
-byteFed k f b = afterCall k (byteOut base (f .link) b) f
+byteFed k f b = afterCall k (byteOut (rulesOf (f .link .core .choice)) (f .link) b) f
 
 abbrev pub tickFed : Checked → Fed → Fed
-tickFed k f = afterCall k (tickOut base (f .link)) f
+tickFed k f = afterCall k (tickOut (rulesOf (f .link .core .choice)) (f .link)) f
 
 -- a run of bytes: its report's number and how many it took are mixed in
 abbrev pub ranBy : Checked → Fed → List ℕ → Ran
-ranBy k f bs = ran k (runOut base (f .link) bs) (f .link)
+ranBy k f bs = ran k (runOut (rulesOf (f .link .core .choice)) (f .link) bs) (f .link)
 
 abbrev pub runFed : Checked → Fed → List ℕ → Fed
 runFed k f bs =
-    afterAll k (runOut base (f .link) bs .out) (ranBy k f bs .link)
+    afterAll k (runOut (rulesOf (f .link .core .choice)) (f .link) bs .out) (ranBy k f bs .link)
     (mix (mix (f .sum) (runNumber (ranBy k f bs .answer))) (runTaken (ranBy k f bs .answer))) f
 
 -- every byte in a call of its own

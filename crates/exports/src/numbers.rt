@@ -39,6 +39,7 @@ fn reception_number(reception: Reception) -> u64
         Reception::BadSum => 5,
         Reception::Abort => 6,
         Reception::StrayResponse => 7,
+        Reception::Cancelled => 8,
     }
 }
 

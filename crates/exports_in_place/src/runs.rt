@@ -10,11 +10,13 @@ use link::byte_in;
 use link::bytes_in;
 use link::session_in;
 use link::tick_in;
+use rules::Choice;
 use step::Core;
 ghost use mathlib.Core.Path.{_≡_};
 ghost use mathlib.Core.List.{List};
 ghost use Prim.Native.Nat.{ℕ};
 ghost use lib.ListN.{length};
+ghost use Rattle.rules.specs.Rules.{usual};
 ghost use Rattle.step.specs.Core.{freshCore};
 ghost use Rattle.step.specs.Checks.{checks};
 ghost use Rattle.step.specs.declared.checks.Checked.the-variants.{Passes};
@@ -62,9 +64,10 @@ fn asked(
     line: &mut [u8],
     up: &mut [u8],
 ) -> Core
-    ensures { λ r. ⌜ ((body : List ℕ) → asked asks (now (parameters .entry)) (at (linkOf freshCore body (now (frame .entry))) (now (line .entry)) (now (up .entry)) 0) ≡ at (linkOf r body (now (frame .exit))) (now (line .exit)) (now (up .exit)) 0) ⌝ }
+    ensures { λ r. ⌜ ((body : List ℕ) → asked asks (now (parameters .entry)) (at (linkOf (freshCore usual) body (now (frame .entry))) (now (line .entry)) (now (up .entry)) 0) ≡ at (linkOf r body (now (frame .exit))) (now (line .exit)) (now (up .exit)) 0) ⌝ }
 {
-    let fresh = Core::fresh();
+    let choice = Choice::usual();
+    let fresh = Core::fresh(choice);
     if asks {
         let told = session_in(fresh, frame, 7, parameters, line, up);
         let core = told.core;

@@ -1,6 +1,7 @@
 -- `exports_by_value::runs::asked` meets its contract: the session's promise, if one is asked for.
 -- Assumes nothing.
 use denote.Ref.{now}
+use Rattle.rules.specs.Rules.{usual}
 use Rattle.link.specs.Link.{freshLink}
 use Rattle.exports.proofs.Feeds.{asked-on, asked-not}
 use borrow.Author.Needs.{needs}
@@ -25,13 +26,13 @@ returns c =
     let at-before = at-session .before .before .before in
     let start = at-before .before .before .before .before .before in
     let a = start .args in
-    asked-on (now (a .parameters)) (now (a .line)) (now (a .up)) (at-before .before .«open» .result) freshLink (at-before .before .«open» .ensures) (a .asks) _ _ _ (at-before .if1 .taken)
+    asked-on (now (a .parameters)) (now (a .line)) (now (a .up)) (at-before .before .«open» .result) (freshLink usual) (at-before .before .«open» .ensures) (a .asks) _ _ _ (at-before .if1 .taken)
     (at-session .session .ensures)
 
 returns-2 : tie.Need-returns-2
 returns-2 c =
     let a = c .before .before .before .before .before .args in
-    asked-not (now (a .parameters)) (now (a .line)) (now (a .up)) (c .before .«open» .result) freshLink (c .before .«open» .ensures) (a .asks) (c .if1 .left)
+    asked-not (now (a .parameters)) (now (a .line)) (now (a .up)) (c .before .«open» .result) (freshLink usual) (c .before .«open» .ensures) (a .asks) (c .if1 .left)
 
 pub asked-spec : {M : Type 1} → statement M
 asked-spec =

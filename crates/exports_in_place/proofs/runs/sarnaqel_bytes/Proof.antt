@@ -20,10 +20,18 @@ bytes-fed-requires-2 : tie.Need-bytes-fed-requires-2
 bytes-fed-requires-2 c κs = search needs
 
 same-length : tie.Need-same-length
-same-length c = search needs
+same-length c =
+    let at-bytes-fed = c .before .before .before .before in
+    let at-heard = at-bytes-fed .before .before .before .before .before .before .before .before .before .before in
+    let at-asked = at-heard .before .before .before .before .before .before .before .before .before in
+    omega (arith, at-asked .asked .kept .1 .1 .1 .0, at-heard .bytes-fed .kept .1 .1 .1 .1 .0, at-bytes-fed .bytes-fed2 .kept .1 .1 .1 .1 .0)
 
 same-length-2 : tie.Need-same-length-2
-same-length-2 c = search needs
+same-length-2 c =
+    let at-bytes-fed = c .before .before .before .before in
+    let at-heard = at-bytes-fed .before .before .before .before .before .before .before .before .before .before in
+    let at-asked = at-heard .before .before .before .before .before .before .before .before .before in
+    omega (arith, at-asked .asked .kept .1 .1 .1 .1 .0, at-heard .bytes-fed .kept .1 .1 .1 .1 .1 .0, at-bytes-fed .bytes-fed2 .kept .1 .1 .1 .1 .1 .0)
 
 returns : tie.Need-returns
 unfolding noBody noFrame
