@@ -10,10 +10,9 @@ use Rattle.refusals.specs.Pick.{pick}
 use Rattle.frame.specs.Bytes.{fold}
 use native.Mathlib.Omega.{arith}
 use Rattle.frame.specs.Frame.{REQ, ACK, NAK, CAN, frameOf}
-use Rattle.rules.specs.Rules.{usual, base}
+use Rattle.rules.specs.Rules.{isModule, usual, base}
 use Rattle.rules.specs.declared.Role.{Role}
 use Rattle.rules.specs.declared.Role.the-variants.{Host, Module}
-use Rattle.step.specs.Contracts.{isModule}
 use Rattle.job.specs.declared.job.Asking.the-variants.{Plain, Asks}
 use Rattle.link.specs.Link.{freshLink, noBody, noFrame}
 use Rattle.report.specs.declared.Sending.the-variants as sending

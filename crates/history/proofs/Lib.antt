@@ -17,3 +17,4 @@ pub mod Receives
 pub mod HandedUp
 pub mod Promise
 pub mod InPlace
+pub mod StandIn

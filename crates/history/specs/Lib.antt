@@ -13,3 +13,4 @@ pub mod Runs
 pub mod HandedUp
 pub mod Section11
 pub mod Whole
+pub mod StandIn

@@ -3,6 +3,7 @@ use hearing::End;
 use hearing::Event;
 use report::Reception;
 use rules::Role;
+use rules::is_module;
 ghost use mathlib.Core.Path.{_≡_};
 ghost use Rattle.reception.specs.Said as spec;
 
@@ -56,14 +57,10 @@ fn saying(reception: Reception, reply: Reply, up: u8) -> Said
 fn cancels(role: Role, awaited: Awaited) -> bool
     ensures { λ r. ⌜ r ≡ spec.cancels role awaited ⌝ }
 {
-    if let Role::Host = role {
-        return false;
+    if let Awaited::Ack = awaited {
+        return is_module(role);
     }
-    match awaited {
-        Awaited::Nothing => false,
-        Awaited::Ack => true,
-        Awaited::Response { command: _ } => false,
-    }
+    false
 }
 
 // A frame of Type 00 or 01 is answered and handed up, or cancelled and dropped.

@@ -3,10 +3,15 @@
 -- Assumes nothing.
 use Prim.Native.Nat.{ℕ}
 use mathlib.Core.Path.{_≡_, refl}
+use mathlib.Core.Bool.{Bool}
 use Rattle.refusals.proofs.Theorems.{fixed}
-use Rattle.rules.specs.Rules.{Cause, usual, rulesOf, base}
+use Rattle.rules.specs.Rules.{Cause, isModule, usual, rulesOf, base}
+use Rattle.rules.specs.declared.Role.{Role}
 use Rattle.rules.specs.declared.Role.the-variants.{Host}
 use Rattle.rules.specs.declared.Choice.{Choice}
+
+pub is-module-determined : (role : Role) {r q : Bool} → r ≡ isModule role → q ≡ isModule role → r ≡ q
+is-module-determined role = fixed
 
 pub usual-determined : {r q : Choice} → r ≡ usual → q ≡ usual → r ≡ q
 usual-determined = fixed

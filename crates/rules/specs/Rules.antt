@@ -2,10 +2,17 @@
 -- The definitions that depend on them take them as a parameter.
 -- Assumes nothing.
 use Prim.Native.Nat.{ℕ}
+use mathlib.Core.Bool.{Bool, true, false}
 use lib.Dec.{eqb}
 use Rattle.refusals.specs.Pick.{pick}
+use Rattle.rules.specs.declared.Role.{Role}
 use Rattle.rules.specs.declared.Role.the-variants.{Host, Module}
 use Rattle.rules.specs.declared.Choice.{Choice}
+
+-- the stand-in, and not the host
+abbrev pub isModule : Role → Bool
+isModule Host = false
+isModule Module = true
 
 -- a link opened without a choice is the host
 abbrev pub usual : Choice
@@ -32,11 +39,14 @@ pub record Rules : Type 0 where
 abbrev pub backOffs : ℕ → ℕ
 backOffs n = pick (eqb n 1) 100 (pick (eqb n 2) 1100 2100)
 
--- The rules of a link that was opened so. Document 01 has the same wait for every frame, and the same back-offs for both causes;
--- the stand-in sends by them too.
-abbrev pub rulesOf : Choice → Rules
-rulesOf c = record { choice = c; wait = λ size. 1600; back = λ cause n. backOffs n }
-
--- document 01's rules: those of the host
+-- document 01's rules, the host's: the same wait for every frame, the same back-offs for both causes
 abbrev pub base : Rules
-base = rulesOf usual
+base = record { choice = usual; wait = λ size. 1600; back = λ cause n. backOffs n }
+
+-- the same rules of sending for another choice
+abbrev pub chosen : Choice → Rules → Rules
+chosen c R = record { choice = c; wait = R .wait; back = R .back }
+
+-- the rules of a link that was opened so: the stand-in sends by document 01's rules too
+abbrev pub rulesOf : Choice → Rules
+rulesOf c = chosen c base

@@ -1,4 +1,4 @@
 pub mod Aside
-mod Choices
+pub mod Choices
 pub mod Passed
 pub mod Theorems

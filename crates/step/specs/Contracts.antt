@@ -9,8 +9,8 @@ use Rattle.report.specs.declared.Sending.{Sending}
 use Rattle.report.specs.declared.Sending.the-variants as sending
 use Rattle.job.specs.declared.job.Job.{Job}
 use Rattle.job.specs.declared.job.Job.the-variants.{Idle, Due, Waiting, BackingOff, Awaiting}
+use Rattle.rules.specs.Rules.{isModule}
 use Rattle.rules.specs.declared.Role.{Role}
-use Rattle.rules.specs.declared.Role.the-variants.{Host, Module}
 use Rattle.step.specs.Checks.{roomChecks, sendOwn, sessionOwn}
 use Rattle.step.specs.declared.checks.Checked.{Checked}
 
@@ -27,11 +27,6 @@ isWaiting (Due a n) = false
 isWaiting (Waiting a n e) = true
 isWaiting (BackingOff a n l) = false
 isWaiting (Awaiting c n e) = false
-
--- the stand-in, which cancels frames
-abbrev pub isModule : Role → Bool
-isModule Host = false
-isModule Module = true
 
 -- a due copy goes out at the end of a frame, a session may have its response there, and a stand-in that waits for an ACK cancels
 abbrev pub heedsEnds : Role → Job → Bool

@@ -19,6 +19,7 @@ use report::Sending;
 use report::Session;
 use rules::Choice;
 use rules::Role;
+use rules::is_module;
 use sending::awaited_by;
 use sending::on_event;
 use sending::on_restart;
@@ -99,15 +100,6 @@ fn is_waiting(job: Job) -> bool
         return true;
     }
     false
-}
-
-fn is_module(role: Role) -> bool
-    ensures { λ r. ⌜ r ≡ ways.isModule role ⌝ }
-{
-    match role {
-        Role::Host => false,
-        Role::Module => true,
-    }
 }
 
 // The end of a frame matters to a due copy, which then goes out, and to a session that awaits its response. And a stand-in cancels
