@@ -16,7 +16,7 @@ const NODE_MASK: usize = 29;
 /// Mask bytes for functions 1 to 255 and the bit for 256.
 const MOST_FUNCTION_MASK: usize = 32;
 /// Bytes before the function mask, behind Type and Command.
-const FIXED: usize = 8;
+pub const FIXED: usize = 8;
 /// Size of the Set Timeouts frame.
 pub const SET_TIMEOUTS_FRAME: usize = 7;
 

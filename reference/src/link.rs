@@ -1,16 +1,21 @@
 //! The calls of section 3 on a link, and how reception (4), the sender (5) and
-//! the session (6) work together in them.
+//! the session (6) work together in them; with the one rule in which the
+//! stand-in of request P5 differs from the host.
 
-use crate::frame::{ACK, MOST_BODY, MOST_FRAME, NAK, REQ};
+use crate::choice::{Choice, Role};
+use crate::frame::{ACK, CAN, MOST_BODY, MOST_FRAME, NAK, REQ};
 use crate::reception::{End, Heard, Reception, Single};
 use crate::refusal::Refusal;
 use crate::report::{ReceptionPart, Report, ResetPart, SendingPart, SessionPart};
 use crate::sending::{Sender, State};
 use crate::session::Session;
 
-/// The host end of the link. A tick is a millisecond.
+/// An end of the link, the host's unless another was chosen. A tick is a
+/// millisecond.
 #[derive(Clone, Debug, PartialEq, Eq)]
 pub struct Link {
+    /// Set by the opening alone.
+    choice: Choice,
     reception: Reception,
     sender: Sender,
     session: Session,
@@ -27,14 +32,20 @@ impl Link {
     pub const RESPONSE_TICKS: u16 = 5_000;
     /// As many bad sums in a row indicate a reset (section 4).
     pub const BAD_SUMS: u8 = 3;
-    /// What every call needs for the line: a 06 or 15 and a whole frame.
+    /// What every call needs for the line: a single byte and a whole frame.
     pub const LINE_ROOM: usize = MOST_FRAME + 1;
     /// What every call needs for the frame handed up.
     pub const UP_ROOM: usize = MOST_BODY;
 
-    /// A fresh link. Nothing is put out.
+    /// A fresh host. Nothing is put out.
     pub fn open() -> Link {
+        Link::open_as(Choice::HOST)
+    }
+
+    /// A fresh link of this choice. Nothing is put out.
+    pub fn open_as(choice: Choice) -> Link {
         Link {
+            choice,
             reception: Reception::fresh(),
             sender: Sender::fresh(),
             session: Session::Closed,
@@ -117,7 +128,8 @@ impl Link {
         Ok(self.accepted(line))
     }
 
-    /// Puts out 15 and makes the link fresh; what was open is abandoned.
+    /// Puts out 15 and makes the link fresh, with the choice of its opening;
+    /// what was open is abandoned.
     pub fn restart(&mut self, line: &mut [u8], up: &mut [u8]) -> Result<Report, Refusal> {
         room(line, up)?;
         let mut report = Report::nothing();
@@ -126,7 +138,7 @@ impl Link {
         } else if !self.sender.quiet() {
             report.sending = SendingPart::Abandoned;
         }
-        *self = Link::open();
+        *self = Link::open_as(self.choice);
         line[0] = NAK;
         report.line = 1;
         Ok(report)
@@ -199,6 +211,10 @@ impl Link {
     fn ended(&mut self, end: End, line: &mut [u8], up: &mut [u8], report: &mut Report) {
         match end {
             End::BadLength => report.reception = ReceptionPart::BadLength,
+            End::Frame if self.cancels() => {
+                answer(CAN, line, report);
+                report.reception = ReceptionPart::Cancelled;
+            }
             End::Frame => {
                 answer(ACK, line, report);
                 self.hand_up(up, report);
@@ -218,6 +234,13 @@ impl Link {
         let (sending, size) = self.sender.release(&mut line[report.line..]);
         report.sending = sending;
         report.line += size;
+    }
+
+    /// Whether a right frame that ends now is cancelled: a module that expects
+    /// an ACK discards it (002, 5.3). The session is not asked, and the send
+    /// goes on as it was.
+    fn cancels(&self) -> bool {
+        self.choice.role == Role::Module && matches!(self.sender.state(), State::Waiting(_))
     }
 
     fn hand_up(&mut self, up: &mut [u8], report: &mut Report) {
@@ -257,7 +280,7 @@ fn room(line: &[u8], up: &[u8]) -> Result<(), Refusal> {
     }
 }
 
-/// Puts out a 06 or 15.
+/// Puts out a 06, 15 or 18.
 fn answer(single: u8, line: &mut [u8], report: &mut Report) {
     line[0] = single;
     report.line = 1;

@@ -87,7 +87,7 @@ fn damage(scribe: &mut Scribe, bytes: &mut Vec<u8>) {
 }
 
 /// Mask bytes: any, empty, full, or with one bit.
-fn mask(scribe: &mut Scribe, size: usize) -> Vec<u8> {
+pub fn mask(scribe: &mut Scribe, size: usize) -> Vec<u8> {
     match scribe.dice.below(5) {
         0 => vec![0; size],
         1 => vec![0xFF; size],
@@ -165,7 +165,7 @@ pub fn nodes_call(scribe: &mut Scribe) {
 }
 
 /// A time at or around the edges of the range.
-fn time(scribe: &mut Scribe) -> u32 {
+pub fn time(scribe: &mut Scribe) -> u32 {
     let ticks = scribe.dice.between(0, 255) * 10;
     let any = scribe.dice.between(0, 2_600);
     let far = scribe

@@ -1,11 +1,14 @@
 //! `play`: a script of calls in, a line for each call out (linkplay.md).
 
 use crate::bodies::{self, Milliseconds};
+use crate::choice::Role;
+use crate::ends::{Answer, Ends};
 use crate::frame;
 use crate::link::Link;
 use crate::refusal::Refusal;
 use crate::report::{ReceptionPart, Report, ResetPart, SendingPart, SessionPart};
-use crate::script::{next_line, passed_over, understand, Call, MOST_ROOM};
+use crate::script::{next_line, passed_over, understand, Call, LinkCall, MOST_ROOM};
+use crate::writers;
 use std::io::{self, BufRead, Write};
 
 /// What stands in every lent buffer before a call, so that a byte written
@@ -75,11 +78,10 @@ pub fn play(mut script: impl BufRead, out: impl Write) -> io::Result<()> {
     player.out.flush()
 }
 
-/// The link being played, its lent buffers and the ticks accepted.
+/// The two ends being played and the buffers lent to both.
 struct Player<W: Write> {
     out: W,
-    link: Link,
-    ticks: u64,
+    ends: Ends,
     line: Lent,
     up: Lent,
 }
@@ -88,8 +90,7 @@ impl<W: Write> Player<W> {
     fn new(out: W) -> Player<W> {
         Player {
             out,
-            link: Link::open(),
-            ticks: 0,
+            ends: Ends::open(),
             line: Lent::new(Link::LINE_ROOM),
             up: Lent::new(Link::UP_ROOM),
         }
@@ -97,77 +98,60 @@ impl<W: Write> Player<W> {
 
     fn call(&mut self, call: Call<'_>) -> io::Result<()> {
         match call {
+            Call::Link(role, call) => {
+                let answer = self.make(role, call);
+                self.say(role, answer)
+            }
+            Call::Ticks(role, number) => self.ticks(role, number),
+            Call::Pass => self.pass(),
             Call::Room { line, up } => {
                 self.line.size = line;
                 self.up.size = up;
                 Ok(())
             }
-            Call::Tick => self.tick(),
-            Call::Ticks(number) => self.ticks(number),
-            Call::Send { .. }
-            | Call::Session { .. }
-            | Call::Byte(_)
-            | Call::Bytes(_)
-            | Call::Restart => self.link_call(call),
             _ => other_call(call, &mut self.out),
         }
     }
 
-    fn tick(&mut self) -> io::Result<()> {
-        let answer = self.one_tick();
-        self.say("tick", None, answer)
+    /// Makes one call on an end.
+    fn make(&mut self, role: Role, call: LinkCall<'_>) -> Answer {
+        let end = self.ends.of_mut(role);
+        end.call(call, self.line.lend(), self.up.lend())
     }
 
     /// Only the ticks that say more than nothing, are refused or spill.
-    fn ticks(&mut self, number: u32) -> io::Result<()> {
+    fn ticks(&mut self, role: Role, number: u32) -> io::Result<()> {
         for _ in 0..number {
-            let answer = self.one_tick();
-            if answer != Ok(Report::nothing()) || self.spilled(answer) {
-                self.say("tick", None, answer)?;
+            let answer = self.make(role, LinkCall::Tick);
+            if answer.report != Ok(Report::nothing()) || self.spilled(answer.report) {
+                self.say(role, answer)?;
             }
         }
         Ok(())
     }
 
-    fn one_tick(&mut self) -> Result<Report, Refusal> {
-        let answer = self.link.tick(self.line.lend(), self.up.lend());
-        self.ticks += u64::from(answer.is_ok());
-        answer
+    /// Gives each end what the other had put out, the stand-in first.
+    fn pass(&mut self) -> io::Result<()> {
+        let passing = self.ends.take();
+        if passing.lost {
+            self.out.write_all(b"pass lost\n")?;
+        }
+        self.give(Role::Module, &passing.to_module)?;
+        self.give(Role::Host, &passing.to_host)
     }
 
-    fn link_call(&mut self, call: Call<'_>) -> io::Result<()> {
-        let (line, up) = (self.line.lend(), self.up.lend());
-        let link = &mut self.link;
-        match call {
-            Call::Send {
-                kind,
-                command,
-                parameters,
-            } => {
-                let answer = link.send(kind, command, parameters, line, up);
-                self.say("send", None, answer)
-            }
-            Call::Session {
-                command,
-                parameters,
-            } => {
-                let answer = link.session(command, parameters, line, up);
-                self.say("session", None, answer)
-            }
-            Call::Byte(byte) => {
-                let answer = link.byte(byte, line, up);
-                self.say("byte", None, answer)
-            }
-            Call::Bytes(run) => {
-                let answer = link.bytes(run, line, up);
-                let taken = answer.ok().map(|(taken, _)| taken);
-                self.say("bytes", taken, answer.map(|(_, report)| report))
-            }
-            _ => {
-                let answer = link.restart(line, up);
-                self.say("restart", None, answer)
+    /// Gives bytes to an end in as many runs as it takes. A refused run drops
+    /// the rest.
+    fn give(&mut self, role: Role, mut bytes: &[u8]) -> io::Result<()> {
+        while !bytes.is_empty() {
+            let answer = self.make(role, LinkCall::Bytes(bytes));
+            self.say(role, answer)?;
+            match answer.taken {
+                Some(taken) => bytes = &bytes[taken..],
+                None => return Ok(()),
             }
         }
+        Ok(())
     }
 
     fn spilled(&self, answer: Result<Report, Refusal>) -> bool {
@@ -175,22 +159,21 @@ impl<W: Write> Player<W> {
         self.line.spilled(line) || self.up.spilled(up)
     }
 
-    /// Writes the line of a call on the link and makes the buffers as before.
-    fn say(
-        &mut self,
-        name: &str,
-        taken: Option<usize>,
-        answer: Result<Report, Refusal>,
-    ) -> io::Result<()> {
-        let spill = self.spilled(answer);
-        write!(self.out, "{name} at={}", self.ticks)?;
-        let (line, up) = match answer {
+    /// Writes the line of a call on an end and makes the buffers as before.
+    fn say(&mut self, role: Role, answer: Answer) -> io::Result<()> {
+        let spill = self.spilled(answer.report);
+        if role == Role::Module {
+            write!(self.out, "module ")?;
+        }
+        let ticks = self.ends.of(role).ticks();
+        write!(self.out, "{} at={ticks}", answer.name)?;
+        let (line, up) = match answer.report {
             Err(refusal) => {
                 write!(self.out, " refused={}", refusal.number())?;
                 (0, 0)
             }
             Ok(report) => {
-                if let Some(taken) = taken {
+                if let Some(taken) = answer.taken {
                     write!(self.out, " taken={taken}")?;
                 }
                 self.say_report(&report)?;
@@ -241,6 +224,7 @@ fn reception_word(part: ReceptionPart) -> &'static str {
         ReceptionPart::BadSum => "badsum",
         ReceptionPart::Abort => "abort",
         ReceptionPart::StrayResponse => "strayresponse",
+        ReceptionPart::Cancelled => "cancelled",
     }
 }
 
@@ -291,6 +275,28 @@ fn other_call(call: Call<'_>, out: &mut impl Write) -> io::Result<()> {
         Call::Read(bytes) => say_read(bytes, out),
         Call::Capabilities(body) => say_capabilities(body, out),
         Call::TimeoutsResponse(body) => say_timeouts_response(body, out),
+        _ => writer_call(call, out),
+    }
+}
+
+/// The writers of bodies.
+fn writer_call(call: Call<'_>, out: &mut impl Write) -> io::Result<()> {
+    match call {
+        Call::WriteCapabilities { room, fixed, mask } => {
+            let mut lent = Lent::new(room);
+            let answer = writers::capabilities(&fixed, mask, lent.lend());
+            say_written("writecapabilities", &lent, answer, out)
+        }
+        Call::WriteNodes { room, list } => {
+            let mut lent = Lent::new(room);
+            let answer = writers::nodes(list, lent.lend());
+            say_written("writenodes", &lent, answer, out)
+        }
+        Call::WriteTimeouts { room, ack, byte } => {
+            let mut lent = Lent::new(room);
+            let answer = writers::timeouts(Milliseconds(ack), Milliseconds(byte), lent.lend());
+            say_written("writetimeouts", &lent, answer, out)
+        }
         _ => Ok(()),
     }
 }
@@ -299,7 +305,7 @@ fn say_refused(name: &str, refusal: Refusal, out: &mut impl Write) -> io::Result
     write!(out, "{name} refused={}", refusal.number())
 }
 
-/// A call that writes a frame into a lent buffer.
+/// A call that writes a frame or a body into a lent buffer.
 fn say_written(
     name: &str,
     lent: &Lent,

@@ -1,8 +1,10 @@
 //! Random scripts of several kinds, each seeking out its edges.
 
+use crate::module_scenes::*;
 use crate::other_scenes::*;
 use crate::scenes::*;
 use crate::scribe::Scribe;
+use crate::writer_scenes::*;
 
 /// A scene writes a few lines of a script.
 pub type Scene = fn(&mut Scribe);
@@ -14,7 +16,8 @@ pub struct Kind {
     pub scenes: &'static [(u32, Scene)],
 }
 
-/// All kinds; `mixed` has the scenes of all.
+/// All kinds; `mixed` has the scenes of those before it. A kind that a request
+/// brings stands at the end, so that the stored scripts stay what they were.
 pub const KINDS: &[Kind] = &[
     Kind {
         name: "split",
@@ -173,7 +176,7 @@ pub const KINDS: &[Kind] = &[
     },
     Kind {
         name: "mixed",
-        seeks: "the scenes of all kinds",
+        seeks: "the scenes of all kinds before",
         scenes: &[
             (2, split_frame),
             (2, special_bytes),
@@ -204,6 +207,38 @@ pub const KINDS: &[Kind] = &[
             (1, timeouts_response_call),
             (1, malformed),
             (2, anything),
+        ],
+    },
+    Kind {
+        name: "module",
+        seeks:
+            "frames in every state of a stand-in, at the edge of its wait, and both ends with pass",
+        scenes: &[
+            (4, frame_while_waiting),
+            (2, frames_in_a_run),
+            (5, checksum_at_edge),
+            (3, lost_inside),
+            (2, sums_around_cancelled),
+            (1, reserved_while_waiting),
+            (1, restart_while_waiting),
+            (5, known_scene),
+            (2, host_scene),
+            (2, pass_now),
+            (3, conversation),
+            (3, both_at_once),
+            (1, overfull),
+            (1, refused_pass),
+            (2, malformed_module),
+        ],
+    },
+    Kind {
+        name: "writers",
+        seeks: "bodies written at every edge, with rooms around 254, and read back",
+        scenes: &[
+            (4, write_capabilities_call),
+            (4, write_nodes_call),
+            (4, write_timeouts_call),
+            (1, malformed_writer),
         ],
     },
 ];

@@ -12,6 +12,8 @@ pub enum ReceptionPart {
     Abort,
     /// In place of `Frame`: a response that no session awaits.
     StrayResponse,
+    /// In place of both: the stand-in waits for an ACK and takes no frame.
+    Cancelled,
 }
 
 /// The sending part. A copy carries its number, a back-off its ticks, an end

@@ -1,10 +1,12 @@
-//! Writes script lines and keeps a link of its own in step with them, so that
+//! Writes script lines and keeps two ends of its own in step with them, so that
 //! the scenes can aim exactly at the edges of document 01.
 
+use crate::choice::Role;
 use crate::dice::Dice;
+use crate::ends::Ends;
 use crate::frame::{self, ACK, CAN, NAK, REQ, RES, START};
 use crate::link::Link;
-use crate::script::{understand, Call, MOST_ROOM};
+use crate::script::{understand, Call, LinkCall, MOST_ROOM};
 use crate::sending::State;
 use crate::session::Session;
 use std::fmt::Write;
@@ -19,11 +21,16 @@ pub struct Scribe {
     pub dice: Dice,
     text: String,
     lines: usize,
-    link: Link,
+    ends: Ends,
+    /// The end that the calls are written for.
+    role: Role,
     line_room: usize,
     up_room: usize,
-    /// What is still to come of the frame begun last.
-    rest: Vec<u8>,
+    /// Lent to the model, which looks at nothing in them.
+    line: [u8; MOST_ROOM],
+    up: [u8; MOST_ROOM],
+    /// What is still to come of the frame begun last, at each end.
+    rests: [Vec<u8>; 2],
     /// Bytes that the last run took.
     taken: usize,
 }
@@ -34,10 +41,13 @@ impl Scribe {
             dice: Dice::new(seed),
             text: String::new(),
             lines: 0,
-            link: Link::open(),
+            ends: Ends::open(),
+            role: Role::Host,
             line_room: Link::LINE_ROOM,
             up_room: Link::UP_ROOM,
-            rest: Vec::new(),
+            line: [0; MOST_ROOM],
+            up: [0; MOST_ROOM],
+            rests: [Vec::new(), Vec::new()],
             taken: 0,
         }
     }
@@ -54,9 +64,26 @@ impl Scribe {
         self.text
     }
 
-    /// The model link.
+    /// Writes a scene for the stand-in.
+    pub fn on_stand_in(&mut self, scene: impl FnOnce(&mut Scribe)) {
+        let role = std::mem::replace(&mut self.role, Role::Module);
+        scene(self);
+        self.role = role;
+    }
+
+    /// The model link of the end that is written for.
     pub fn link(&self) -> &Link {
-        &self.link
+        self.ends.of(self.role).link()
+    }
+
+    /// The model's ends.
+    pub fn ends(&self) -> &Ends {
+        &self.ends
+    }
+
+    /// Bytes that the end written for has put out since the last pass.
+    pub fn put_out(&self) -> usize {
+        self.ends.of(self.role).out().bytes().len()
     }
 
     /// Writes a line and does the same to the model as it does to the link
@@ -83,6 +110,14 @@ impl Scribe {
         self.say(&line);
     }
 
+    /// A call on the end that is written for.
+    fn at_end(&self, call: &str) -> String {
+        match self.role {
+            Role::Host => call.to_string(),
+            Role::Module => format!("module {call}"),
+        }
+    }
+
     /// Plays the line on the model. What it answers is not looked at: a
     /// refused call changes nothing.
     fn follow(&mut self, line: &str) {
@@ -90,43 +125,51 @@ impl Scribe {
         let Some(call) = understand(line.as_bytes(), &mut store) else {
             return;
         };
-        let (mut room, mut up_room) = ([0; MOST_ROOM], [0; MOST_ROOM]);
-        let (line, up) = (&mut room[..self.line_room], &mut up_room[..self.up_room]);
         self.taken = 0;
         match call {
             Call::Room { line, up } => (self.line_room, self.up_room) = (line, up),
-            Call::Byte(byte) => drop(self.link.byte(byte, line, up)),
-            Call::Bytes(run) => {
-                let answer = self.link.bytes(run, line, up);
-                self.taken = answer.map_or(0, |(taken, _)| taken);
-            }
-            Call::Tick => drop(self.link.tick(line, up)),
-            Call::Ticks(number) => {
+            Call::Link(role, call) => self.taken = self.make(role, call).unwrap_or(0),
+            Call::Ticks(role, number) => {
                 for _ in 0..number {
-                    let _ = self.link.tick(line, up);
+                    self.make(role, LinkCall::Tick);
                 }
             }
-            Call::Send {
-                kind,
-                command,
-                parameters,
-            } => drop(self.link.send(kind, command, parameters, line, up)),
-            Call::Session {
-                command,
-                parameters,
-            } => drop(self.link.session(command, parameters, line, up)),
-            Call::Restart => drop(self.link.restart(line, up)),
+            Call::Pass => self.follow_pass(),
             _ => {}
         }
     }
 
+    /// Makes a call on the model; answers how many bytes an accepted run took.
+    fn make(&mut self, role: Role, call: LinkCall<'_>) -> Option<usize> {
+        let (line, up) = (&mut self.line, &mut self.up);
+        let (line, up) = (&mut line[..self.line_room], &mut up[..self.up_room]);
+        self.ends.of_mut(role).call(call, line, up).taken
+    }
+
+    fn follow_pass(&mut self) {
+        let passing = self.ends.take();
+        let given = [
+            (Role::Module, &passing.to_module),
+            (Role::Host, &passing.to_host),
+        ];
+        for (role, bytes) in given {
+            let mut rest = &bytes[..];
+            while !rest.is_empty() {
+                match self.make(role, LinkCall::Bytes(rest)) {
+                    Some(taken) => rest = &rest[taken..],
+                    None => break,
+                }
+            }
+        }
+    }
+
     pub fn byte(&mut self, byte: u8) {
-        self.say_bytes("byte", &[byte]);
+        self.say_bytes(&self.at_end("byte"), &[byte]);
     }
 
     /// One run in one line; answers how many bytes were taken.
     pub fn run(&mut self, run: &[u8]) -> usize {
-        self.say_bytes("bytes", run);
+        self.say_bytes(&self.at_end("bytes"), run);
         self.taken
     }
 
@@ -150,22 +193,29 @@ impl Scribe {
             number.min(3)
         };
         if number == 1 && self.dice.once_in(2) {
-            self.say("tick");
+            self.say(&self.at_end("tick"));
         } else {
-            self.say(&format!("ticks {number}"));
+            self.say(&self.at_end(&format!("ticks {number}")));
         }
     }
 
     pub fn send(&mut self, kind: u8, command: u8, parameters: &[u8]) {
-        self.say_bytes(&format!("send {kind:02X} {command:02x}"), parameters);
+        let head = format!("send {kind:02X} {command:02x}");
+        self.say_bytes(&self.at_end(&head), parameters);
     }
 
     pub fn session(&mut self, command: u8, parameters: &[u8]) {
-        self.say_bytes(&format!("session {command:02X}"), parameters);
+        let head = format!("session {command:02X}");
+        self.say_bytes(&self.at_end(&head), parameters);
     }
 
     pub fn restart(&mut self) {
-        self.say("restart");
+        self.say(&self.at_end("restart"));
+    }
+
+    /// Gives each end what the other has put out.
+    pub fn pass(&mut self) {
+        self.say("pass");
     }
 
     pub fn room(&mut self, line: usize, up: usize) {
@@ -177,18 +227,18 @@ impl Scribe {
     }
 
     pub fn hunting(&self) -> bool {
-        self.link.frame_clock().is_none()
+        self.link().frame_clock().is_none()
     }
 
     /// Ticks to the abort of the frame being received.
     pub fn frame_left(&self) -> Option<u32> {
-        let clock = self.link.frame_clock()?;
+        let clock = self.link().frame_clock()?;
         Some(u32::from(Link::FRAME_TICKS + 1 - clock))
     }
 
     /// Ticks to the loss of the copy or the end of the back-off.
     pub fn sender_left(&self) -> Option<u32> {
-        match self.link.sender_state() {
+        match self.link().sender_state() {
             State::Waiting(ticks) => Some(u32::from(Link::ACK_TICKS - ticks)),
             State::BackingOff(left) => Some(u32::from(left)),
             State::Quiet | State::Due => None,
@@ -197,7 +247,7 @@ impl Scribe {
 
     /// Ticks to the end of a session that awaits its response.
     pub fn session_left(&self) -> Option<u32> {
-        match self.link.session_state() {
+        match self.link().session_state() {
             Session::Awaiting { ticks, .. } => Some(u32::from(Link::RESPONSE_TICKS - ticks)),
             _ => None,
         }
@@ -219,7 +269,7 @@ impl Scribe {
 
     /// The command of the open session, if there is one, else any.
     pub fn session_command(&mut self) -> u8 {
-        match self.link.session_state() {
+        match self.link().session_state() {
             Session::Sending { command } | Session::Awaiting { command, .. } => command,
             Session::Closed => self.command(),
         }
@@ -281,23 +331,29 @@ impl Scribe {
         frame
     }
 
+    /// What is still to come of the frame begun last at this end.
+    fn rest(&mut self) -> &mut Vec<u8> {
+        &mut self.rests[self.role as usize]
+    }
+
     /// Gives the first `size` bytes of a frame and keeps the rest for `finish`.
     pub fn begin(&mut self, frame: &[u8], size: usize) {
         self.give(&frame[..size]);
-        self.rest = frame[size..].to_vec();
+        *self.rest() = frame[size..].to_vec();
     }
 
     /// Gives the rest of the frame begun last.
     pub fn finish(&mut self) {
-        let rest = std::mem::take(&mut self.rest);
+        let rest = std::mem::take(self.rest());
         self.give(&rest);
     }
 
     /// Gives some of the rest, but never the last byte.
     pub fn go_on(&mut self) {
-        if self.rest.len() > 1 {
-            let size = self.dice.between(1, self.rest.len() as u32 - 1) as usize;
-            let part: Vec<u8> = self.rest.drain(..size).collect();
+        let left = self.rest().len();
+        if left > 1 {
+            let size = self.dice.between(1, left as u32 - 1) as usize;
+            let part: Vec<u8> = self.rest().drain(..size).collect();
             self.give(&part);
         }
     }
@@ -315,7 +371,7 @@ impl Scribe {
 
     /// Opens a send or session if none is open.
     pub fn open_some(&mut self) {
-        if self.link.busy() {
+        if self.link().busy() {
             return;
         }
         let command = self.command();

@@ -1,5 +1,9 @@
 //! The script of linkplay.md: lines in, calls out.
 
+use crate::bodies::FIXED;
+use crate::choice::Role;
+use crate::frame::MOST_BODY;
+use crate::writers::NodeList;
 use std::io::{self, BufRead};
 
 /// A line has at most as many bytes, its newline not counted.
@@ -7,9 +11,9 @@ pub const MOST_LINE: usize = 4_096;
 /// A lent buffer has at most as many bytes.
 pub const MOST_ROOM: usize = 600;
 
-/// What one line of a script asks for. Bytes stand in the reader's store.
+/// One call on a link. Bytes stand in the reader's store.
 #[derive(Clone, Copy, Debug, PartialEq, Eq)]
-pub enum Call<'a> {
+pub enum LinkCall<'a> {
     Send {
         kind: u8,
         command: u8,
@@ -22,8 +26,17 @@ pub enum Call<'a> {
     Byte(u8),
     Bytes(&'a [u8]),
     Tick,
-    Ticks(u32),
     Restart,
+}
+
+/// What one line of a script asks for. Bytes stand in the reader's store.
+#[derive(Clone, Copy, Debug, PartialEq, Eq)]
+pub enum Call<'a> {
+    /// One call on an end.
+    Link(Role, LinkCall<'a>),
+    /// So many ticks of an end.
+    Ticks(Role, u32),
+    Pass,
     Room {
         line: usize,
         up: usize,
@@ -46,6 +59,20 @@ pub enum Call<'a> {
         byte: u32,
     },
     TimeoutsResponse(&'a [u8]),
+    WriteCapabilities {
+        room: usize,
+        fixed: [u8; FIXED],
+        mask: &'a [u8],
+    },
+    WriteNodes {
+        room: usize,
+        list: NodeList<'a>,
+    },
+    WriteTimeouts {
+        room: usize,
+        ack: u32,
+        byte: u32,
+    },
 }
 
 /// Whether a line is passed over: empty, or begun with `#`.
@@ -113,10 +140,28 @@ impl<'w, 's, I: Iterator<Item = &'w [u8]>> Words<'w, 's, I> {
         decimal(self.words.next()?)
     }
 
+    /// As many bytes as the array has.
+    fn some_bytes<const N: usize>(&mut self) -> Option<[u8; N]> {
+        let mut bytes = [0; N];
+        for byte in &mut bytes {
+            *byte = self.byte()?;
+        }
+        Some(bytes)
+    }
+
     /// The size of a lent buffer.
     fn size(&mut self) -> Option<usize> {
         let size = self.number()? as usize;
         (size <= MOST_ROOM).then_some(size)
+    }
+
+    /// What is lent: the size that a `...room` line says, else the plain one.
+    fn room(&mut self, name: &[u8], plain: usize) -> Option<usize> {
+        if name.ends_with(b"room") {
+            self.size()
+        } else {
+            Some(plain)
+        }
     }
 
     /// All words left, each a byte.
@@ -145,56 +190,75 @@ pub fn understand<'s>(line: &[u8], store: &'s mut Vec<u8>) -> Option<Call<'s>> {
     }
     let mut words = line.split(|&byte| byte == b' ');
     let name = words.next()?;
-    let words = Words { words, store };
+    let mut words = Words { words, store };
     match name {
-        b"send" | b"session" | b"byte" | b"bytes" | b"tick" | b"ticks" | b"restart" | b"room" => {
-            link_call(name, words)
-        }
+        // Only a call on a link stands behind `module`.
+        b"module" => match words.words.next()? {
+            name if on_link(name) => link_call(Role::Module, name, words),
+            _ => None,
+        },
+        name if on_link(name) => link_call(Role::Host, name, words),
         _ => other_call(name, words),
     }
 }
 
-/// The calls on the link, and the sizes of its lent buffers.
+/// Whether the word names a call on a link.
+fn on_link(name: &[u8]) -> bool {
+    const NAMES: [&[u8]; 7] = [
+        b"send", b"session", b"byte", b"bytes", b"tick", b"ticks", b"restart",
+    ];
+    NAMES.contains(&name)
+}
+
+/// The calls on the link of an end.
 fn link_call<'w, 's, I: Iterator<Item = &'w [u8]>>(
+    role: Role,
     name: &[u8],
     mut words: Words<'w, 's, I>,
 ) -> Option<Call<'s>> {
     match name {
-        b"send" => Some(Call::Send {
-            kind: words.byte()?,
-            command: words.byte()?,
-            parameters: words.bytes()?,
-        }),
-        b"session" => Some(Call::Session {
-            command: words.byte()?,
-            parameters: words.bytes()?,
-        }),
+        b"send" => Some(Call::Link(
+            role,
+            LinkCall::Send {
+                kind: words.byte()?,
+                command: words.byte()?,
+                parameters: words.bytes()?,
+            },
+        )),
+        b"session" => Some(Call::Link(
+            role,
+            LinkCall::Session {
+                command: words.byte()?,
+                parameters: words.bytes()?,
+            },
+        )),
         b"byte" => {
             let byte = words.byte()?;
-            words.end(Call::Byte(byte))
+            words.end(Call::Link(role, LinkCall::Byte(byte)))
         }
-        b"bytes" => Some(Call::Bytes(words.bytes()?)),
-        b"tick" => words.end(Call::Tick),
+        b"bytes" => Some(Call::Link(role, LinkCall::Bytes(words.bytes()?))),
+        b"tick" => words.end(Call::Link(role, LinkCall::Tick)),
         b"ticks" => {
             let ticks = words.number()?;
-            words.end(Call::Ticks(ticks))
+            words.end(Call::Ticks(role, ticks))
         }
-        b"restart" => words.end(Call::Restart),
-        _ => {
-            let (line, up) = (words.size()?, words.size()?);
-            words.end(Call::Room { line, up })
-        }
+        _ => words.end(Call::Link(role, LinkCall::Restart)),
     }
 }
 
-/// Frames and bodies, which need no link.
+/// What is no call on a link: rooms, `pass`, frames and bodies.
 fn other_call<'w, 's, I: Iterator<Item = &'w [u8]>>(
     name: &[u8],
     mut words: Words<'w, 's, I>,
 ) -> Option<Call<'s>> {
     match name {
+        b"room" => {
+            let (line, up) = (words.size()?, words.size()?);
+            words.end(Call::Room { line, up })
+        }
+        b"pass" => words.end(Call::Pass),
         b"build" | b"buildroom" => Some(Call::Build {
-            room: if name == b"build" { 257 } else { words.size()? },
+            room: words.room(name, 257)?,
             kind: words.byte()?,
             command: words.byte()?,
             parameters: words.bytes()?,
@@ -202,19 +266,45 @@ fn other_call<'w, 's, I: Iterator<Item = &'w [u8]>>(
         b"read" => Some(Call::Read(words.bytes()?)),
         b"capabilities" => Some(Call::Capabilities(words.bytes()?)),
         b"nodes" | b"nodesroom" => Some(Call::Nodes {
-            room: if name == b"nodes" { 232 } else { words.size()? },
+            room: words.room(name, 232)?,
             body: words.bytes()?,
         }),
         b"timeouts" | b"timeoutsroom" => {
-            let room = if name == b"timeouts" {
-                7
-            } else {
-                words.size()?
-            };
+            let room = words.room(name, 7)?;
             let (ack, byte) = (words.number()?, words.number()?);
             words.end(Call::Timeouts { room, ack, byte })
         }
         b"timeoutsres" => Some(Call::TimeoutsResponse(words.bytes()?)),
+        _ => writer_call(name, words),
+    }
+}
+
+/// The writers of bodies, which lend 254 bytes unless the line says how many.
+fn writer_call<'w, 's, I: Iterator<Item = &'w [u8]>>(
+    name: &[u8],
+    mut words: Words<'w, 's, I>,
+) -> Option<Call<'s>> {
+    match name {
+        b"writecapabilities" | b"writecapabilitiesroom" => Some(Call::WriteCapabilities {
+            room: words.room(name, MOST_BODY)?,
+            fixed: words.some_bytes()?,
+            mask: words.bytes()?,
+        }),
+        b"writenodes" | b"writenodesroom" => Some(Call::WriteNodes {
+            room: words.room(name, MOST_BODY)?,
+            list: NodeList {
+                version: words.byte()?,
+                capabilities: words.byte()?,
+                chip_type: words.byte()?,
+                chip_version: words.byte()?,
+                mask: words.bytes()?,
+            },
+        }),
+        b"writetimeouts" | b"writetimeoutsroom" => {
+            let room = words.room(name, MOST_BODY)?;
+            let (ack, byte) = (words.number()?, words.number()?);
+            words.end(Call::WriteTimeouts { room, ack, byte })
+        }
         _ => None,
     }
 }

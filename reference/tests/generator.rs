@@ -3,12 +3,13 @@
 
 mod common;
 
-use common::played;
+use common::{called, played};
+use reference::choice::{Choice, Role};
 use reference::dice::Dice;
 use reference::link::Link;
 use reference::random::{kind, script, KINDS};
 use reference::scribe::Scribe;
-use reference::script::{understand, Call};
+use reference::script::{understand, Call, LinkCall};
 use reference::stream::{stream, STREAMS};
 use std::collections::HashSet;
 
@@ -55,57 +56,90 @@ fn no_call_spills_and_few_lines_are_errors() {
         let lines = played(&script(3, kind, 1_500));
         assert!(!lines.iter().any(|line| line.contains("SPILL")));
         let errors = lines.iter().filter(|line| *line == "error").count();
-        let may = matches!(kind.name, "malformed" | "mixed");
+        let may = matches!(kind.name, "malformed" | "mixed" | "module" | "writers");
         assert!(may || errors == 0, "{} {errors}", kind.name);
     }
 }
 
-/// The model that aims must be where a link played by the same lines is.
+/// The model that aims must be where the ends played by the same lines are.
 #[test]
 fn the_model_keeps_step() {
     for kind in KINDS {
         let mut scribe = Scribe::new(11);
-        let mut link = Link::open();
-        let mut rooms = (258, 254);
+        let mut model = Model::new();
         let mut done = 0;
         while scribe.lines() < 600 {
             let (_, scene) = scribe.dice.one(kind.scenes);
             scene(&mut scribe);
             for line in scribe.text()[done..].split('\n') {
-                follow(line, &mut link, &mut rooms);
+                model.follow(line);
             }
             done = scribe.text().len();
-            assert_eq!(scribe.link(), &link, "{}", kind.name);
+            for role in [Role::Host, Role::Module] {
+                let end = scribe.ends().of(role);
+                let place = role as usize;
+                assert_eq!(end.link(), &model.links[place], "{}", kind.name);
+                assert_eq!(end.out().bytes(), model.put_out[place], "{}", kind.name);
+            }
         }
     }
 }
 
-/// Plays one line on a link.
-fn follow(line: &str, link: &mut Link, rooms: &mut (usize, usize)) {
-    let (mut lent, mut store) = ([0; 1_200], Vec::new());
-    let (line_lent, up_lent) = lent.split_at_mut(600);
-    let (to_line, up) = (&mut line_lent[..rooms.0], &mut up_lent[..rooms.1]);
-    match understand(line.as_bytes(), &mut store) {
-        Some(Call::Room { line, up }) => *rooms = (line, up),
-        Some(Call::Byte(byte)) => drop(link.byte(byte, to_line, up)),
-        Some(Call::Bytes(run)) => drop(link.bytes(run, to_line, up)),
-        Some(Call::Tick) => drop(link.tick(to_line, up)),
-        Some(Call::Ticks(number)) => {
-            for _ in 0..number {
-                let _ = link.tick(to_line, up);
+/// Both links and what they put out since the last pass, the host first.
+struct Model {
+    links: [Link; 2],
+    put_out: [Vec<u8>; 2],
+    rooms: (usize, usize),
+}
+
+impl Model {
+    fn new() -> Model {
+        Model {
+            links: [Choice::HOST, Choice::MODULE].map(Link::open_as),
+            put_out: [vec![], vec![]],
+            rooms: (258, 254),
+        }
+    }
+
+    /// Plays one line.
+    fn follow(&mut self, line: &str) {
+        let mut store = Vec::new();
+        match understand(line.as_bytes(), &mut store) {
+            Some(Call::Room { line, up }) => self.rooms = (line, up),
+            Some(Call::Link(role, call)) => drop(self.call(role as usize, call)),
+            Some(Call::Ticks(role, number)) => {
+                for _ in 0..number {
+                    self.call(role as usize, LinkCall::Tick);
+                }
+            }
+            Some(Call::Pass) => {
+                let [from_host, from_module] = std::mem::take(&mut self.put_out);
+                self.give(1, from_host);
+                self.give(0, from_module);
+            }
+            _ => {}
+        }
+    }
+
+    /// The bytes taken by an accepted call.
+    fn call(&mut self, place: usize, call: LinkCall<'_>) -> Option<usize> {
+        let (mut line, mut up) = ([0; 600], [0; 600]);
+        let (line, up) = (&mut line[..self.rooms.0], &mut up[..self.rooms.1]);
+        let (taken, report) = called(&mut self.links[place], call, line, up).ok()?;
+        let put_out = &mut self.put_out[place];
+        if put_out.len() + report.line <= 1_024 {
+            put_out.extend(&line[..report.line]);
+        }
+        Some(taken)
+    }
+
+    fn give(&mut self, place: usize, mut bytes: Vec<u8>) {
+        while !bytes.is_empty() {
+            match self.call(place, LinkCall::Bytes(&bytes)) {
+                Some(taken) => drop(bytes.drain(..taken)),
+                None => return,
             }
         }
-        Some(Call::Send {
-            kind,
-            command,
-            parameters,
-        }) => drop(link.send(kind, command, parameters, to_line, up)),
-        Some(Call::Session {
-            command,
-            parameters,
-        }) => drop(link.session(command, parameters, to_line, up)),
-        Some(Call::Restart) => drop(link.restart(to_line, up)),
-        _ => {}
     }
 }
 
@@ -291,4 +325,120 @@ fn responses_come_at_4999_and_no_later() {
     }
     assert!(responses.contains(&4_999) && responses.contains(&4_998));
     assert!(!responses.contains(&5_000));
+}
+
+#[test]
+fn a_stand_in_meets_every_end_in_every_state() {
+    let edges = [
+        "module bytes at=",
+        "rx=cancelled tx=nothing session=nothing reset=none line=18 up=-",
+        "rx=frame tx=copy:2",
+        "rx=strayresponse tx=copy:2",
+        "rx=reserved tx=nothing",
+        "rx=badsum tx=nothing session=nothing reset=sums",
+        "rx=abort",
+        "tx=failed:4 session=notsent:4",
+        "session=response:1",
+        "session=response:2",
+        "session=noresponse:1",
+        "pass lost",
+        "error",
+    ];
+    reaches("module", &edges);
+    let lines = lines_of("module");
+    for call in ["send", "session", "byte", "bytes", "tick", "restart"] {
+        let begin = format!("module {call} at=");
+        assert!(lines.iter().any(|line| line.starts_with(&begin)), "{call}");
+        let refused = |line: &&String| line.starts_with(&begin) && line.ends_with(" refused=1");
+        assert!(lines.iter().any(|line| refused(&line)), "{call} refused");
+    }
+    assert!(!lines
+        .iter()
+        .any(|line| !line.starts_with("module") && line.contains("rx=cancelled")));
+}
+
+/// Ticks since the stand-in's last copy at which a frame was cancelled, and at
+/// which one was handed up because the copy had been lost on that tick.
+#[test]
+fn checksums_come_at_1599_and_at_1600() {
+    let (mut copy_at, mut lost_at) = (0, 0);
+    let (mut cancelled, mut taken) = (HashSet::new(), HashSet::new());
+    for line in lines_of("module") {
+        let Some(at) = line
+            .strip_prefix("module ")
+            .and_then(|call| call.split("at=").nth(1))
+        else {
+            continue;
+        };
+        let at: u64 = at.split(' ').next().unwrap().parse().unwrap();
+        if line.contains("rx=cancelled") {
+            cancelled.insert(at - copy_at);
+        } else if line.contains("line=06") && !line.contains("up=-") && lost_at > copy_at {
+            taken.insert(at - copy_at);
+        }
+        if line.contains("tx=copy:") {
+            copy_at = at;
+        } else if line.contains("tx=backoff:") {
+            lost_at = at;
+        }
+    }
+    for ticks in [0, 1_598, 1_599] {
+        assert!(cancelled.contains(&ticks), "{ticks}");
+    }
+    assert!(cancelled.iter().all(|&ticks| ticks < 1_600));
+    assert!(taken.contains(&1_600) && taken.contains(&1_601));
+}
+
+#[test]
+fn bodies_are_written_and_refused_for_every_cause() {
+    let edges = [
+        "writecapabilities ok",
+        "writecapabilities refused=10",
+        "writenodes ok",
+        "writenodes refused=10",
+        "writetimeouts ok",
+        "writetimeouts refused=11",
+        "capabilities refused=10",
+        "nodes refused=10",
+        "error",
+    ];
+    reaches("writers", &edges);
+    let lines = lines_of("writers");
+    for name in ["writecapabilities", "writenodes", "writetimeouts"] {
+        let refused = format!("{name} refused=1");
+        assert!(lines.contains(&refused), "{refused}");
+    }
+}
+
+/// Behind each writer that took its values stands its reader with the body
+/// that it wrote.
+#[test]
+fn what_is_written_is_read_back() {
+    let mut back = 0;
+    for seed in 1..=4 {
+        let text = script(seed, kind("writers").unwrap(), 2_000);
+        let lines: Vec<&str> = text.lines().collect();
+        for pair in lines.windows(2) {
+            back += u32::from(read_back(pair[0], pair[1]));
+        }
+    }
+    assert!(back > 500, "{back}");
+}
+
+/// Whether the first line writes a body and the second gives it to its reader.
+fn read_back(writer: &str, reader: &str) -> bool {
+    let answers = played(writer);
+    let (Some(answer), Some((name, bytes))) = (answers.first(), reader.split_once(' ')) else {
+        return false;
+    };
+    let Some((_, body)) = answer.split_once(" ok ") else {
+        return false;
+    };
+    let reads = ["capabilities", "nodes", "timeoutsres"].contains(&name);
+    if !writer.starts_with("write") || !reads {
+        return false;
+    }
+    assert_eq!(bytes.replace(' ', "").to_uppercase(), body);
+    assert!(played(reader)[0].starts_with(&format!("{name} ok ")));
+    true
 }

@@ -3,54 +3,50 @@
 
 mod common;
 
-use common::Bench;
+use common::{called, Bench};
+use reference::choice::Choice;
 use reference::dice::Dice;
 use reference::link::Link;
 use reference::random::{kind, script};
 use reference::refusal::Refusal;
-use reference::script::{understand, Call};
+use reference::script::{understand, Call, LinkCall};
 
-/// Every line of a script that is in form, with the link before it. All calls
-/// have room enough.
-fn each_call(text: &str, mut look: impl FnMut(&Link, Call<'_>)) {
-    let mut link = Link::open();
-    let mut store = Vec::new();
-    for line in text.split('\n') {
-        if let Some(call) = understand(line.as_bytes(), &mut store) {
-            look(&link, call);
-            follow(&mut link, call);
+/// Every call of a script, with the link before it, once on a host and once on
+/// a stand-in, whichever end the script names. All calls have room enough.
+fn each_call(text: &str, mut look: impl FnMut(&Link, LinkCall<'_>)) {
+    for choice in [Choice::HOST, Choice::MODULE] {
+        let mut link = Link::open_as(choice);
+        let mut store = Vec::new();
+        for line in text.split('\n') {
+            match understand(line.as_bytes(), &mut store) {
+                Some(Call::Link(_, call)) => {
+                    look(&link, call);
+                    follow(&mut link, call);
+                }
+                Some(Call::Ticks(_, number)) => {
+                    look(&link, LinkCall::Tick);
+                    (0..number).for_each(|_| follow(&mut link, LinkCall::Tick));
+                }
+                _ => {}
+            }
         }
     }
 }
 
-fn follow(link: &mut Link, call: Call<'_>) {
-    let (line, up) = (&mut [0; 258], &mut [0; 254]);
-    match call {
-        Call::Byte(byte) => drop(link.byte(byte, line, up)),
-        Call::Bytes(run) => drop(link.bytes(run, line, up)),
-        Call::Tick => drop(link.tick(line, up)),
-        Call::Ticks(number) => (0..number).for_each(|_| follow(link, Call::Tick)),
-        Call::Send {
-            kind,
-            command,
-            parameters,
-        } => drop(link.send(kind, command, parameters, line, up)),
-        Call::Session {
-            command,
-            parameters,
-        } => drop(link.session(command, parameters, line, up)),
-        Call::Restart => drop(link.restart(line, up)),
-        _ => {}
-    }
+fn follow(link: &mut Link, call: LinkCall<'_>) {
+    let _ = called(link, call, &mut [0; 258], &mut [0; 254]);
 }
+
+/// A kind with calls of every sort, and the one that seeks the stand-in's edges.
+const SOUGHT: [&str; 2] = ["mixed", "module"];
 
 #[test]
 fn a_run_equals_its_bytes_one_by_one() {
     let mut runs = 0;
     for seed in 1..=6 {
-        let text = script(seed, kind("mixed").unwrap(), 3_000);
+        let text = script(seed, kind(SOUGHT[seed as usize % 2]).unwrap(), 3_000);
         each_call(&text, |link, call| {
-            let Call::Bytes(run) = call else { return };
+            let LinkCall::Bytes(run) = call else { return };
             let (mut whole, mut single) = (Bench::new(), Bench::new());
             whole.link = link.clone();
             single.link = link.clone();
@@ -76,7 +72,7 @@ fn a_run_equals_its_bytes_one_by_one() {
 fn a_refusal_changes_nothing_in_any_state() {
     let mut dice = Dice::new(9);
     for seed in 1..=4 {
-        let text = script(seed, kind("mixed").unwrap(), 1_500);
+        let text = script(seed, kind(SOUGHT[seed as usize % 2]).unwrap(), 1_500);
         each_call(&text, |link, _| {
             let mut after = link.clone();
             let (line_room, up_room) = dice.one(&[(257, 254), (258, 253), (0, 0), (600, 0)]);
@@ -107,14 +103,14 @@ fn a_refusal_changes_nothing_in_any_state() {
 fn bytes_put_out_have_their_cause_in_the_report() {
     use reference::report::{ReceptionPart, SendingPart};
     for seed in 1..=4 {
-        let text = script(seed, kind("mixed").unwrap(), 3_000);
+        let text = script(seed, kind(SOUGHT[seed as usize % 2]).unwrap(), 3_000);
         each_call(&text, |link, call| {
             let mut bench = Bench::new();
             bench.link = link.clone();
             let said = match call {
-                Call::Byte(byte) => bench.byte(byte),
-                Call::Bytes(run) => bench.run(run).1,
-                Call::Tick => bench.tick(),
+                LinkCall::Byte(byte) => bench.byte(byte),
+                LinkCall::Bytes(run) => bench.run(run).1,
+                LinkCall::Tick => bench.tick(),
                 _ => return,
             };
             let answer = match said.report.reception {
@@ -122,6 +118,7 @@ fn bytes_put_out_have_their_cause_in_the_report() {
                     Some(0x06)
                 }
                 ReceptionPart::BadSum => Some(0x15),
+                ReceptionPart::Cancelled => Some(0x18),
                 _ => None,
             };
             let copy = matches!(said.report.sending, SendingPart::Copy(_));

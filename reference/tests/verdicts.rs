@@ -4,10 +4,11 @@
 mod common;
 
 use common::*;
+use reference::choice::{Choice, Role};
 use reference::link::Link;
 use reference::random::{script, KINDS};
 use reference::report::{Report, SendingPart, SessionPart};
-use reference::script::{understand, Call};
+use reference::script::{understand, Call, LinkCall};
 
 /// The last tick on which a verdict may come, counted from acceptance.
 const SEND_BOUND: u32 = 15_701;
@@ -131,66 +132,48 @@ struct Watched {
 }
 
 impl Watched {
+    /// Whichever end a call names, it is made on this one: any calls make a
+    /// history.
     fn play(&mut self, call: Call<'_>) {
         match call {
             Call::Room { line, up } => self.rooms = (line, up),
-            Call::Ticks(number) => (0..number).for_each(|_| self.play(Call::Tick)),
-            _ => self.call(call),
+            Call::Link(_, call) => self.call(call),
+            Call::Ticks(_, number) => (0..number).for_each(|_| self.call(LinkCall::Tick)),
+            _ => {}
         }
     }
 
     /// One call on the link; the watch hears of it if it is accepted.
-    fn call(&mut self, call: Call<'_>) {
+    fn call(&mut self, call: LinkCall<'_>) {
         let (mut line, mut up) = ([0; 600], [0; 600]);
         let (line, up) = (&mut line[..self.rooms.0], &mut up[..self.rooms.1]);
-        let Some(report) = called(&mut self.link, call, line, up) else {
+        let Ok((_, report)) = called(&mut self.link, call, line, up) else {
             return;
         };
         match call {
-            Call::Send {
+            LinkCall::Send {
                 kind,
                 command,
                 parameters,
             } => self
                 .watch
                 .accepted(framed(kind, command, parameters), false),
-            Call::Session {
+            LinkCall::Session {
                 command,
                 parameters,
             } => self.watch.accepted(framed(0, command, parameters), true),
             // What was open has no verdict any more.
-            Call::Restart => self.watch.open = None,
+            LinkCall::Restart => self.watch.open = None,
             _ => {}
         }
         self.watch
-            .call(&report, &line[..report.line], call == Call::Tick);
+            .call(&report, &line[..report.line], call == LinkCall::Tick);
     }
 }
 
-/// The report of a call on the link, if it is one and is accepted.
-fn called(link: &mut Link, call: Call<'_>, line: &mut [u8], up: &mut [u8]) -> Option<Report> {
-    let answer = match call {
-        Call::Tick => link.tick(line, up),
-        Call::Byte(byte) => link.byte(byte, line, up),
-        Call::Bytes(run) => link.bytes(run, line, up).map(|(_, report)| report),
-        Call::Send {
-            kind,
-            command,
-            parameters,
-        } => link.send(kind, command, parameters, line, up),
-        Call::Session {
-            command,
-            parameters,
-        } => link.session(command, parameters, line, up),
-        Call::Restart => link.restart(line, up),
-        _ => return None,
-    };
-    answer.ok()
-}
-
-fn watched(text: &str) -> Watch {
+fn watched(role: Role, text: &str) -> Watch {
     let mut watched = Watched {
-        link: Link::open(),
+        link: Link::open_as(Choice { role }),
         watch: Watch::new(),
         rooms: (258, 254),
     };
@@ -203,16 +186,29 @@ fn watched(text: &str) -> Watch {
     watched.watch
 }
 
-#[test]
-fn random_histories_keep_the_promises() {
+/// Verdicts and failures of random histories of an end.
+fn histories_of(role: Role) -> (u32, u32) {
     let (mut verdicts, mut failures) = (0, 0);
     for kind in KINDS {
         for seed in 1..=4 {
-            let watch = watched(&script(seed, kind, 2_500));
+            let watch = watched(role, &script(seed, kind, 2_500));
             verdicts += watch.verdicts;
             failures += watch.failures;
         }
     }
+    (verdicts, failures)
+}
+
+#[test]
+fn random_histories_keep_the_promises() {
+    let (verdicts, failures) = histories_of(Role::Host);
+    assert!(verdicts > 4_000, "{verdicts}");
+    assert!(failures > 400, "{failures}");
+}
+
+#[test]
+fn random_histories_of_a_stand_in_keep_the_promises() {
+    let (verdicts, failures) = histories_of(Role::Module);
     assert!(verdicts > 4_000, "{verdicts}");
     assert!(failures > 400, "{failures}");
 }
@@ -232,11 +228,14 @@ fn slowest(open: &str) -> String {
 
 #[test]
 fn a_send_can_take_15701_ticks() {
-    let watch = watched(&(slowest("send 00 07 01 06") + "ticks 1600\nticks 9000\n"));
-    assert_eq!(
-        (watch.verdicts, watch.failures, watch.latest),
-        (1, 1, 15_701)
-    );
+    let text = slowest("send 00 07 01 06") + "ticks 1600\nticks 9000\n";
+    for role in [Role::Host, Role::Module] {
+        let watch = watched(role, &text);
+        assert_eq!(
+            (watch.verdicts, watch.failures, watch.latest),
+            (1, 1, 15_701)
+        );
+    }
     let lines = played(&(slowest("send 00 07") + "ticks 1600\n"));
     assert_eq!(
         lines.last().unwrap(),
@@ -247,11 +246,13 @@ fn a_send_can_take_15701_ticks() {
 #[test]
 fn a_session_can_take_20700_ticks() {
     let text = slowest("session 07 01") + "ticks 1599\nbyte 06\nticks 5000\nticks 9000\n";
-    let watch = watched(&text);
-    assert_eq!(
-        (watch.verdicts, watch.failures, watch.latest),
-        (1, 0, 20_700)
-    );
+    for role in [Role::Host, Role::Module] {
+        let watch = watched(role, &text);
+        assert_eq!(
+            (watch.verdicts, watch.failures, watch.latest),
+            (1, 0, 20_700)
+        );
+    }
     let lines = played(&text);
     assert_eq!(
         lines.last().unwrap(),

@@ -2,9 +2,11 @@
 //! bytes written beyond those reported, and a frame maker of its own.
 #![allow(dead_code)]
 
+use reference::choice::{Choice, Role};
 use reference::link::Link;
 use reference::refusal::Refusal;
 use reference::report::{ReceptionPart, Report, ResetPart, SendingPart, SessionPart};
+use reference::script::LinkCall;
 
 /// What stands in lent bytes before a call.
 const BEFORE: u8 = 0xE7;
@@ -41,6 +43,18 @@ impl Bench {
     pub fn new() -> Bench {
         Bench {
             link: Link::open(),
+            ticks: 0,
+        }
+    }
+
+    /// A stand-in on the bench.
+    pub fn module() -> Bench {
+        Bench::of(Role::Module)
+    }
+
+    pub fn of(role: Role) -> Bench {
+        Bench {
+            link: Link::open_as(Choice { role }),
             ticks: 0,
         }
     }
@@ -159,6 +173,7 @@ pub fn rx(word: &str) -> ReceptionPart {
         "badsum" => ReceptionPart::BadSum,
         "abort" => ReceptionPart::Abort,
         "strayresponse" => ReceptionPart::StrayResponse,
+        "cancelled" => ReceptionPart::Cancelled,
         _ => panic!("no reception part {word}"),
     }
 }
@@ -214,6 +229,31 @@ pub fn framed(kind: u8, command: u8, parameters: &[u8]) -> Vec<u8> {
     frame.extend_from_slice(parameters);
     frame.push(sum);
     frame
+}
+
+/// Makes a call on a link; how many bytes were taken, and the report.
+pub fn called(
+    link: &mut Link,
+    call: LinkCall<'_>,
+    line: &mut [u8],
+    up: &mut [u8],
+) -> Result<(usize, Report), Refusal> {
+    let report = match call {
+        LinkCall::Bytes(run) => return link.bytes(run, line, up),
+        LinkCall::Byte(byte) => link.byte(byte, line, up),
+        LinkCall::Tick => link.tick(line, up),
+        LinkCall::Send {
+            kind,
+            command,
+            parameters,
+        } => link.send(kind, command, parameters, line, up),
+        LinkCall::Session {
+            command,
+            parameters,
+        } => link.session(command, parameters, line, up),
+        LinkCall::Restart => link.restart(line, up),
+    };
+    Ok((0, report?))
 }
 
 /// Plays a script and answers the lines.
