@@ -1,2 +1,3 @@
 pub mod Capabilities
+pub mod Writer
 pub mod Contracts

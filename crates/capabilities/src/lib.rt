@@ -1,7 +1,10 @@
-// Capabilities RES, command 07 (document 01, section 8; 002, 7.3).
+// Capabilities RES, command 07 (document 01, section 8; 002, 7.3): read, and written.
+mod writer;
+
 use masks::is_marked;
 use masks::is_response;
 use refusals::Refusal;
+pub use writer::write_capabilities;
 ghost use mathlib.Core.Path.{_≡_};
 ghost use Prim.Native.Nat.{_≤_};
 ghost use lib.ListN.{length};

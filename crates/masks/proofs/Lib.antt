@@ -1,4 +1,5 @@
 pub mod Layouts
 pub mod Masks
 pub mod Marked
+pub mod Writing
 pub mod Theorems

@@ -1,2 +1,4 @@
 pub mod Response
 pub mod Mask
+pub mod Written
+pub mod Contracts

@@ -1,7 +1,10 @@
-// Node list RES, command 02 (document 01, section 8; 002, 7.4).
+// Node list RES, command 02 (document 01, section 8; 002, 7.4): read, and written.
+mod writer;
+
 use masks::is_marked;
 use masks::is_response;
 use refusals::Refusal;
+pub use writer::write_nodes;
 ghost use mathlib.Core.Path.{_≡_};
 ghost use Prim.Native.Nat.{_≤_};
 ghost use lib.ListN.{length};

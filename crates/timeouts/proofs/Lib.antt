@@ -1,3 +1,4 @@
 pub mod Layouts
 pub mod Setting
+pub mod Writing
 pub mod Theorems

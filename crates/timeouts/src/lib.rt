@@ -1,4 +1,6 @@
-// Set Timeouts, command 06, and its RES (document 01, section 8; 002, 7.5).
+// Set Timeouts, command 06, and its RES, read and written (document 01, section 8; 002, 7.5).
+mod writer;
+
 use frame::Built;
 use frame::REQ;
 use frame::build;
@@ -9,6 +11,7 @@ use units::Millis;
 use units::Ticks10;
 use units::millis_of;
 use units::ticks_of;
+pub use writer::write_timeouts;
 ghost use mathlib.Core.Path.{_≡_};
 ghost use Rattle.timeouts.specs.Timeouts.{SetTimeouts, isOldTimeouts, readTimeouts};
 
