@@ -8,19 +8,20 @@ use Rattle.linkplay.proofs.link_calls.play_all.Statement.{statement}
 use Rattle.linkplay.proofs.link_calls.play_all.Tie as tie
 
 abbrev Inv-loop : tie.InvT-loop
-Inv-loop verb times bytes line₀ up₀ out₀ next₀ i₀ line up out next i = (length line ≡ length line₀) × (length up ≡ length up₀) × (length out ≡ length out₀)
+Inv-loop place verb times bytes line₀ up₀ kept₀ out₀ next₀ i₀ line up kept out next i =
+    (length line ≡ length line₀) × (length up ≡ length up₀) × (length kept ≡ length kept₀) × (length out ≡ length out₀)
 
 abbrev μ-loop : tie.MeasureT-loop
-μ-loop verb times bytes line₀ up₀ out₀ next₀ i₀ line up out next i = times - i
+μ-loop place verb times bytes line₀ up₀ kept₀ out₀ next₀ i₀ line up kept out next i = times - i
 
 loop-holds : tie.Need-loop-holds Inv-loop μ-loop
 loop-holds c = search needs
 
-play-once-requires : tie.Need-play-once-requires Inv-loop μ-loop
-play-once-requires c κs = search needs
-
 add-i : tie.Need-add-i Inv-loop μ-loop
 add-i c = search needs
+
+play-once-requires : tie.Need-play-once-requires Inv-loop μ-loop
+play-once-requires c κs = search needs
 
 loop-less : tie.Need-loop-less Inv-loop μ-loop
 loop-less c = search needs
@@ -37,8 +38,26 @@ same-length-2 c = search needs
 same-length-3 : tie.Need-same-length-3 Inv-loop μ-loop
 same-length-3 c = search needs
 
+same-length-4 : tie.Need-same-length-4 Inv-loop μ-loop
+same-length-4 c = search needs
+
 returns : tie.Need-returns Inv-loop μ-loop
 returns c = search needs
+
+same-length-5 : tie.Need-same-length-5 Inv-loop μ-loop
+same-length-5 c = search needs
+
+same-length-6 : tie.Need-same-length-6 Inv-loop μ-loop
+same-length-6 c = search needs
+
+same-length-7 : tie.Need-same-length-7 Inv-loop μ-loop
+same-length-7 c = search needs
+
+same-length-8 : tie.Need-same-length-8 Inv-loop μ-loop
+same-length-8 c = search needs
+
+returns-2 : tie.Need-returns-2 Inv-loop μ-loop
+returns-2 c = search needs
 
 pub play-all-spec : {M : Type 1} → statement M
 play-all-spec =
@@ -47,11 +66,17 @@ play-all-spec =
     Inv-loop
     μ-loop
     loop-holds
-    play-once-requires
     add-i
+    play-once-requires
     loop-less
     loop-again
     same-length
     same-length-2
     same-length-3
-    returns)
+    same-length-4
+    returns
+    same-length-5
+    same-length-6
+    same-length-7
+    same-length-8
+    returns-2)
