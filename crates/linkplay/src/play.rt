@@ -28,8 +28,7 @@ use script::on_other;
 use script::order_of;
 use script::put_end;
 use script::say;
-ghost use Prim.Native.Nat.{_+_, _/_, _≤_, _<_};
-ghost use lib.ListN.{length};
+ghost use Prim.Native.Nat.{_<_};
 
 // The places of the two ends.
 pub const HOST: usize = 0;
@@ -90,16 +89,6 @@ fn opened() -> Player {
     }
 }
 
-// Where the half of what is kept begins that is of this end.
-fn kept_from(place: usize, kept: &[u8]) -> usize
-    ensures { λ r. ⌜ r + length (now (kept .entry)) / 2 ≤ length (now (kept .entry)) ⌝ }
-{
-    if place == HOST {
-        return 0;
-    }
-    kept.len() / 2
-}
-
 // The calls that an order asks of an end, at most so many.
 fn on_link(
     place: usize,
@@ -112,8 +101,8 @@ fn on_link(
 ) -> Player
     requires { ⌜ place < 2 ⌝ }
 {
-    let from = kept_from(place, kept);
-    let to = from + kept.len() / 2;
+    let from = within(place * KEPT_OF_ONE, kept);
+    let to = within(from + KEPT_OF_ONE, kept);
     let end = player.ends[place];
     let pending = player.pending[place];
     let turn = Turn {
