@@ -17,6 +17,7 @@ use orders::within;
 use refusals::Refusal;
 use script::put_end;
 use script::say;
+ghost use Prim.Native.Nat.{_<_};
 
 // An end of a play.
 pub struct End {
@@ -305,6 +306,19 @@ fn play_once(
     }
 }
 
+// How many calls are left behind one more.
+fn further(left: usize, is_over: bool) -> usize
+    ensures { λ r. ⌜ (0 < left → r < left) ⌝ }
+{
+    if is_over {
+        return 0;
+    }
+    if 0 < left {
+        return left - 1;
+    }
+    0
+}
+
 // The calls that an order asks for, at most so many.
 fn play_all(
     place: usize,
@@ -318,10 +332,10 @@ fn play_all(
     out: &mut [u8],
 ) -> Turn {
     let mut next = turn;
-    let mut i = 0;
-    while i < times && !next.is_over {
-        i += 1;
+    let mut left = times;
+    while 0 < left {
         next = play_once(place, verb, bytes, next, line, up, kept, out);
+        left = further(left, next.is_over);
     }
     next
 }

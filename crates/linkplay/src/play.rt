@@ -28,7 +28,8 @@ use script::on_other;
 use script::order_of;
 use script::put_end;
 use script::say;
-ghost use Prim.Native.Nat.{_<_};
+ghost use Prim.Native.Nat.{_<_, _≤_};
+ghost use lib.ListN.{length};
 
 // The places of the two ends.
 pub const HOST: usize = 0;
@@ -132,29 +133,36 @@ fn on_link(
     next
 }
 
-// Says that something was lost.
-fn put_lost(is_lost: bool, out: &mut [u8], waiting: usize) -> usize {
-    if is_lost {
+// Says whether something was lost of what was put out.
+fn put_lost(pending: [Pending; 2], out: &mut [u8], waiting: usize) -> usize {
+    let host = pending[HOST];
+    let module = pending[MODULE];
+    if host.is_lost || module.is_lost {
         let w = say(b"pass lost", [0; 8], b"", b"", out, waiting);
         return put_end(false, out, w);
     }
     waiting
 }
 
-// Gives each end what the other had put out: first the host's bytes to the stand-in, then those of the stand-in. A run takes at least one byte.
+// Copies what an end put out, of which so many bytes are kept here, and answers how many there are.
+fn take(pending: Pending, kept: &[u8], given: &mut [u8]) -> usize
+    ensures { λ r. ⌜ r ≤ length (now (given .entry)) ⌝ }
+{
+    lay(kept, given.len(), given, 0);
+    within(pending.count, given)
+}
+
+// Gives each end what the other had put out: first the host's bytes to the stand-in, then those of the stand-in. Each run takes at least one byte.
 fn pass(player: Player, kept: &mut [u8], out: &mut [u8]) -> Player {
     let mut asked = [0u8; KEPT_OF_ONE];
     let mut answered = [0u8; KEPT_OF_ONE];
-    lay(kept, KEPT_OF_ONE, &mut asked, 0);
-    lay(behind(kept, KEPT_OF_ONE), KEPT_OF_ONE, &mut answered, 0);
-    let host = player.pending[HOST];
-    let module = player.pending[MODULE];
-    let n = within(host.count, &asked);
-    let k = within(module.count, &answered);
-    let mut next = player;
+    let pending = player.pending;
+    let n = take(pending[HOST], kept, &mut asked);
+    let k = take(pending[MODULE], behind(kept, KEPT_OF_ONE), &mut answered);
     let nothing = nothing_put_out();
+    let mut next = player;
     next.pending = nothing;
-    next.waiting = put_lost(host.is_lost || module.is_lost, out, player.waiting);
+    next.waiting = put_lost(pending, out, player.waiting);
     next = on_link(MODULE, LinkVerb::Bytes, n, &asked[0..n], next, kept, out);
     on_link(HOST, LinkVerb::Bytes, k, &answered[0..k], next, kept, out)
 }
