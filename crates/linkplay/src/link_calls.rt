@@ -1,22 +1,42 @@
-// The calls on the link, each with its line of output.
-use crate::play::Player;
+// The calls on the link of an end, each with its line of output.
 use link::Answer;
 use link::Answered;
 use link::Link;
 use link::Ran;
 use link::RunAnswer;
 use orders::LinkVerb;
+use orders::Pending;
 use orders::behind;
 use orders::fill;
 use orders::is_spilled;
 use orders::is_tick;
+use orders::keep_whole;
 use orders::restore;
 use orders::spelt_at;
-use orders::times_of;
 use orders::within;
 use refusals::Refusal;
 use script::put_end;
 use script::say;
+ghost use Prim.Native.Nat.{_<_};
+
+// An end of a play.
+pub struct End {
+    pub link: Link,
+    // The ticks accepted since opening.
+    pub ticks: u64,
+}
+
+// The calls that an order asks of an end, as far as they are made.
+pub struct Turn {
+    pub end: End,
+    // What the end has put out since the last pass.
+    pub pending: Pending,
+    // How many bytes wait in the output buffer.
+    pub waiting: usize,
+    // How many bytes of the order its runs took, and whether it asks for no further run.
+    pub taken: u64,
+    pub is_over: bool,
+}
 
 const REFUSED: u64 = 0;
 
@@ -146,7 +166,7 @@ fn put_report(told: Told, line: &[u8], up: &[u8], out: &mut [u8], waiting: usize
     }
     let report = told.report;
     say(
-        b" rx={nothing,skipped,badlen,frame,reserved,badsum,abort,strayresponse}\
+        b" rx={nothing,skipped,badlen,frame,reserved,badsum,abort,strayresponse,cancelled}\
         \x20tx=(nothing,stray,due,copy:,backoff:,acked:,failed:,abandoned)\
         \x20session=(nothing,waiting,response:,noresponse:,notsent:,abandoned)\
         \x20reset={none,sums,delivery} line=& up=@",
@@ -170,8 +190,9 @@ fn name_of(verb: LinkVerb) -> u64 {
     }
 }
 
-// The name of the call, when it was, and what it answered.
+// The end and the name of the call, when it was, and what it answered.
 fn put_line(
+    place: usize,
     verb: LinkVerb,
     ticks: u64,
     told: Told,
@@ -180,9 +201,18 @@ fn put_line(
     out: &mut [u8],
     waiting: usize,
 ) -> usize {
-    let values = [name_of(verb), ticks, told.kind, told.number, 0, 0, 0, 0];
+    let values = [
+        place as u64,
+        name_of(verb),
+        ticks,
+        told.kind,
+        told.number,
+        0,
+        0,
+        0,
+    ];
     let w = say(
-        b"{send,session,byte,bytes,tick,restart} at=#{ refused=#,, taken=#}",
+        b"{,module }{send,session,byte,bytes,tick,restart} at=#{ refused=#,, taken=#}",
         values,
         line,
         up,
@@ -194,6 +224,7 @@ fn put_line(
 
 // The call's line of output, where it has one. The lent buffers are again as they were before the call.
 fn tell(
+    place: usize,
     verb: LinkVerb,
     ticks: u64,
     told: Told,
@@ -209,68 +240,133 @@ fn tell(
     if !has_line(verb, told, spilled) {
         return waiting;
     }
-    let w = put_line(verb, ticks, told, line, up, out, waiting);
+    let w = put_line(place, verb, ticks, told, line, up, out, waiting);
     restore(line, n);
     restore(up, k);
     put_end(spilled, out, w)
 }
 
-// One call with its line of output.
-fn play_once(
-    verb: LinkVerb,
-    bytes: &[u8],
-    player: Player,
-    line: &mut [u8],
-    up: &mut [u8],
-    out: &mut [u8],
-) -> Player {
-    let link = player.link;
-    let called = call(verb, link, bytes, line, up);
-    let left = called.link;
-    let told = called.told;
-    let ticks = ticks_with(verb, told.kind, player.ticks);
-    let mut next = player;
-    next.link = left;
-    next.ticks = ticks;
-    next.waiting = tell(verb, ticks, told, line, up, out, player.waiting);
-    next
+// How many bytes a run took.
+fn taken_by(told: Told) -> u64 {
+    if told.kind == RAN {
+        return told.number;
+    }
+    0
 }
 
-// The calls that an order asks for.
-fn play_all(
+// Whether the order asks for no further run behind this call: its bytes are all taken, or it was refused, which drops those that are left. Where it has no bytes, as for ticks, a refusal ends nothing.
+fn is_last(told: Told, rest: &[u8]) -> bool {
+    let n = rest.len() as u64;
+    if told.kind == RAN {
+        return n <= told.number;
+    }
+    told.kind == REFUSED && 0 < n
+}
+
+// The end behind a call.
+fn end_with(verb: LinkVerb, end: End, called: Called) -> End {
+    let link = called.link;
+    let told = called.told;
+    End {
+        link: link,
+        ticks: ticks_with(verb, told.kind, end.ticks),
+    }
+}
+
+// With what a call put out.
+fn pending_with(pending: Pending, told: Told, line: &[u8], kept: &mut [u8]) -> Pending {
+    let report = told.report;
+    keep_whole(pending, line, report[6] as usize, kept)
+}
+
+// One call with its line of output. A run has the bytes that were not taken yet.
+fn play_once(
+    place: usize,
     verb: LinkVerb,
-    times: u32,
     bytes: &[u8],
-    player: Player,
+    turn: Turn,
     line: &mut [u8],
     up: &mut [u8],
+    kept: &mut [u8],
     out: &mut [u8],
-) -> Player {
-    let mut next = player;
-    let mut i = 0;
-    while i < times {
-        next = play_once(verb, bytes, next, line, up, out);
-        i += 1;
+) -> Turn {
+    let end = turn.end;
+    let link = end.link;
+    let rest = behind(bytes, turn.taken as usize);
+    let called = call(verb, link, rest, line, up);
+    let told = called.told;
+    let next = end_with(verb, end, called);
+    let pending = turn.pending;
+    Turn {
+        end: next,
+        pending: pending_with(pending, told, line, kept),
+        waiting: tell(place, verb, next.ticks, told, line, up, out, turn.waiting),
+        taken: std::num::wrapping_add_u64(turn.taken, taken_by(told)),
+        is_over: is_last(told, rest),
+    }
+}
+
+// How many calls are left behind one more.
+fn further(left: usize, is_over: bool) -> usize
+    ensures { λ r. ⌜ (0 < left → r < left) ⌝ }
+{
+    if is_over {
+        return 0;
+    }
+    if 0 < left {
+        return left - 1;
+    }
+    0
+}
+
+// The calls that an order asks for, at most so many.
+fn play_all(
+    place: usize,
+    verb: LinkVerb,
+    times: usize,
+    bytes: &[u8],
+    turn: Turn,
+    line: &mut [u8],
+    up: &mut [u8],
+    kept: &mut [u8],
+    out: &mut [u8],
+) -> Turn {
+    let mut next = turn;
+    let mut left = times;
+    while 0 < left {
+        next = play_once(place, verb, bytes, next, line, up, kept, out);
+        left = further(left, next.is_over);
     }
     next
 }
 
-// The calls on the link that an order asks for, each lent as much of two buffers as the play says.
-pub fn on_link(verb: LinkVerb, n: u32, bytes: &[u8], player: Player, out: &mut [u8]) -> Player {
-    let times = times_of(verb, n);
+// The same, each call lent so much of two buffers.
+pub fn on_end(
+    place: usize,
+    verb: LinkVerb,
+    times: usize,
+    bytes: &[u8],
+    turn: Turn,
+    line_room: usize,
+    up_room: usize,
+    kept: &mut [u8],
+    out: &mut [u8],
+) -> Turn {
     let mut line = [0u8; 600];
     let mut up = [0u8; 600];
     fill(&mut line);
     fill(&mut up);
-    let n = within(player.line, &line);
-    let k = within(player.up, &up);
+    let n = within(line_room, &line);
+    let k = within(up_room, &up);
     play_all(
+        place,
         verb,
         times,
         bytes,
-        player,
+        turn,
         &mut line[0..n],
         &mut up[0..k],
+        kept,
         out,
     )
 }

@@ -7,5 +7,6 @@ mod verbs;
 fn main() {
     let mut text = io::buffer();
     let mut out = io::large_buffer();
-    play::play(&mut text, &mut out);
+    let mut kept = [0u8; play::KEPT];
+    play::play(&mut text, &mut kept, &mut out);
 }

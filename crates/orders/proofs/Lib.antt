@@ -1,2 +1,3 @@
 pub mod Patterns
+pub mod Keeping
 pub mod Theorems

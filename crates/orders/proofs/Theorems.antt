@@ -8,15 +8,20 @@ use Prim.Native.Nat.{ℕ, zero, suc, _+_, _-_, _*_, _%_, _≤_, _<_, min}
 use native.Mathlib.Omega.{arith}
 use native.Mathlib.Nat.{add-zero, add-suc, suc-add, mod-lt, mod-eq-of-lt, mod-add-mod, mod-eq-sub-mod, add-mod-right, add-mul-mod-self-right}
 use lib.Dec.{leb, ltb, lit<, lit≤}
-use lib.ListN.{length, drop, getD, length-drop, drop-of-length-le, List·getD-append}
-use lib.Seq.{drop-at, getD-at, getD-drop}
+use lib.ListN.{length, take, drop, getD, length-drop, drop-of-length-le, List·getD-append}
+use lib.Seq.{drop-at, getD-at, getD-drop, paste, take-paste}
 use borrow.Author.Tests.{eq-eqb, ltb-true, ltb-false, leb-true, leb-false}
+use Rattle.refusals.specs.Pick.{pick}
 use Rattle.refusals.proofs.Theorems.{fixed}
+use Rattle.frame.specs.Contracts.{fits}
+use Rattle.orders.specs.declared.ends.Pending.{Pending}
 use Rattle.orders.specs.declared.verb.LinkVerb.{LinkVerb}
 use Rattle.orders.specs.Verb.{isTick, timesOf}
 use Rattle.orders.specs.Bytes.{speltAt}
 use Rattle.orders.specs.Lent.{mark, pattern, differs, isSpilled}
+use Rattle.orders.specs.Ends.{CallAt, KeepWhole}
 use Rattle.orders.proofs.Patterns.{pattern-length, goes-on}
+use Rattle.orders.proofs.Keeping.{fits-within}
 
 -- Each promise determines its answer, or every lent byte after the call.
 
@@ -44,6 +49,40 @@ restore-determined lent = fixed
 
 pub within-determined : (n : ℕ) (lent : List ℕ) {r q : ℕ} → r ≡ min n (length lent) → q ≡ min n (length lent) → r ≡ q
 within-determined n lent = fixed
+
+-- a place that is 0 or 7, and is 7 exactly where the line asks the stand-in
+pub call-at-determined : {text : List ℕ} {n r q : ℕ} → CallAt text n r → CallAt text n q → r ≡ q
+call-at-determined {r} {q} a b = ⊎-elim front behind (a .places)
+  where
+    behind : r ≡ 7 → r ≡ q
+    behind e = fixed e (b .from (a .to e))
+
+    front : r ≡ 0 → r ≡ q
+    front e = ⊎-elim (fixed e) (λ f. fixed (a .from (b .to f)) f) (b .places)
+
+pub keep-whole-determined : {p : Pending} {bytes : List ℕ} {n : ℕ} {kept : List ℕ} {r q : Pending} {l m : List ℕ} → KeepWhole p bytes n kept r l
+    → KeepWhole p bytes n kept q m → (r ≡ q) × (l ≡ m)
+keep-whole-determined a b = (fixed (a .answer) (b .answer), fixed (a .left) (b .left))
+
+-- ---- what is kept
+
+-- Where all of a call's bytes fit, what is kept is what was kept before, and they behind it.
+pub kept-in-order : {p : Pending} {bytes : List ℕ} {n : ℕ} {kept : List ℕ} {r : Pending} {l : List ℕ} → KeepWhole p bytes n kept r l
+    → fits bytes n kept (p .count) ≡ true → take (r .count) l ≡ take (p .count) kept ++ take n bytes
+kept-in-order {p} {bytes} {n} {kept} {r} {l} a e =
+    let room = fits-within bytes n kept (p .count) e in
+    let size : r .count ≡ p .count + n = ap (λ (x : Pending). x .count) (a .answer) ∙ ap (λ (t : Bool). pick t (p .count + n) (p .count)) e in
+    let left : l ≡ paste kept (p .count) bytes n = a .left ∙ ap (λ (t : Bool). pick t (paste kept (p .count) bytes n) kept) e in
+    ap (λ (k : ℕ). take k l) size ∙ ap (take (p .count + n)) left ∙ take-paste kept (p .count) bytes n (omega arith) (room .0)
+
+-- Where they do not, nothing is kept of them, and that shows until it is said.
+pub kept-not-at-all : {p : Pending} {bytes : List ℕ} {n : ℕ} {kept : List ℕ} {r : Pending} {l : List ℕ} → KeepWhole p bytes n kept r l
+    → fits bytes n kept (p .count) ≡ false → (r .count ≡ p .count) × (r .«is_lost» ≡ true) × (l ≡ kept)
+kept-not-at-all {p} {bytes} {n} {kept} a e = (
+  ap (λ (x : Pending). x .count) (a .answer) ∙ ap (λ (t : Bool). pick t (p .count + n) (p .count)) e,
+  ap (λ (x : Pending). x .«is_lost») (a .answer) ∙ ap (λ (t : Bool). pick t (p .«is_lost») true) e,
+  a .left ∙ ap (λ (t : Bool). pick t (paste kept (p .count) bytes n) kept) e,
+)
 
 -- ---- the pattern
 

@@ -1,3 +1,4 @@
 pub mod Verb
 pub mod Bytes
 pub mod Lent
+pub mod Ends

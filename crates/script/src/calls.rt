@@ -6,6 +6,7 @@ use crate::printing::put_end;
 use capabilities::Capabilities;
 use capabilities::Support;
 use frame::Built;
+use masks::Written;
 use nodes::NodeList;
 use orders::behind;
 use orders::fill;
@@ -137,6 +138,57 @@ fn nodes(body: &[u8], list: &mut [u8]) -> Told {
     }
 }
 
+// A body in the lent buffer.
+fn written(answer: Written) -> Told {
+    match answer {
+        Written::Refused(refusal) => refused(refusal),
+        Written::Body(count) => Told {
+            values: [0, count as u64, 0, 0, 0, 0, 0, 0],
+            used: count as usize,
+        },
+    }
+}
+
+// The number of two bytes at a place, most significant first.
+fn pair_at(bytes: &[u8], at: usize) -> u16 {
+    let rest = behind(bytes, at);
+    spelt_at(rest, 0) as u16 * 256 + spelt_at(rest, 1) as u16
+}
+
+// The line has the 8 fixed bytes, then the mask.
+fn write_capabilities(bytes: &[u8], lent: &mut [u8]) -> Told {
+    let version = spelt_at(bytes, 0);
+    let revision = spelt_at(bytes, 1);
+    let manufacturer = pair_at(bytes, 2);
+    let product_type = pair_at(bytes, 4);
+    let product_id = pair_at(bytes, 6);
+    written(capabilities::write_capabilities(
+        version,
+        revision,
+        manufacturer,
+        product_type,
+        product_id,
+        behind(bytes, 8),
+        lent,
+    ))
+}
+
+// The line has the version, the capabilities, the chip's type and version, then the mask.
+fn write_nodes(bytes: &[u8], lent: &mut [u8]) -> Told {
+    let version = spelt_at(bytes, 0);
+    let capabilities = spelt_at(bytes, 1);
+    let chip_type = spelt_at(bytes, 2);
+    let chip_version = spelt_at(bytes, 3);
+    written(nodes::write_nodes(
+        version,
+        capabilities,
+        behind(bytes, 4),
+        chip_type,
+        chip_version,
+        lent,
+    ))
+}
+
 fn old_timeouts(body: &[u8]) -> Told {
     match timeouts::read_timeouts(body) {
         OldTimeouts::Refused(refusal) => refused(refusal),
@@ -157,6 +209,9 @@ fn answer(order: Order, bytes: &[u8], lent: &mut [u8]) -> Told {
         b'n' => nodes(bytes, lent),
         b't' => built(timeouts::set_timeouts(Millis(order.before), Millis(order.number), lent)),
         b'o' => old_timeouts(bytes),
+        b'u' => write_capabilities(bytes, lent),
+        b'v' => write_nodes(bytes, lent),
+        b'w' => written(timeouts::write_timeouts(Millis(order.before), Millis(order.number), lent)),
         // An error has no values. No row of the table has another letter; its line would say so, since no refusal has the number 0.
         _ => Told {
             values: [1, 0, 0, 0, 0, 0, 0, 0],

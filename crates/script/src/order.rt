@@ -28,6 +28,11 @@ impl Order {
     pub const BLANK: u8 = b'#';
 
     pub const ERROR: u8 = 0;
+
+    // That of a line that is an error.
+    pub fn error() -> Self {
+        wordless(Order::ERROR)
+    }
 }
 
 fn wordless(call: u8) -> Order {

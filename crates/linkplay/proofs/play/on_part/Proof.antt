@@ -8,10 +8,11 @@ use Rattle.linkplay.proofs.play.on_part.Statement.{statement}
 use Rattle.linkplay.proofs.play.on_part.Tie as tie
 
 abbrev Inv-loop : tie.InvT-loop
-Inv-loop part text₀ out₀ next₀ kept₀ i₀ text out next kept i = (length text ≡ length text₀) × (length out ≡ length out₀)
+Inv-loop part text₀ kept₀ out₀ next₀ n₀ i₀ text kept out next n i =
+    (length text ≡ length text₀) × (length kept ≡ length kept₀) × (length out ≡ length out₀)
 
 abbrev μ-loop : tie.MeasureT-loop
-μ-loop part text₀ out₀ next₀ kept₀ i₀ text out next kept i = length part - i
+μ-loop part text₀ kept₀ out₀ next₀ n₀ i₀ text kept out next n i = length part - i
 
 loop-holds : tie.Need-loop-holds Inv-loop μ-loop
 loop-holds c = search needs
@@ -46,6 +47,9 @@ same-length c = search needs
 same-length-2 : tie.Need-same-length-2 Inv-loop μ-loop
 same-length-2 c = search needs
 
+same-length-3 : tie.Need-same-length-3 Inv-loop μ-loop
+same-length-3 c = search needs
+
 returns : tie.Need-returns Inv-loop μ-loop
 returns c = search needs
 
@@ -66,4 +70,5 @@ on-part-spec =
     loop-again-2
     same-length
     same-length-2
+    same-length-3
     returns)

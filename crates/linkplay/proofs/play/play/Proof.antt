@@ -7,10 +7,11 @@ use Rattle.linkplay.proofs.play.play.Statement.{statement}
 use Rattle.linkplay.proofs.play.play.Tie as tie
 
 abbrev Inv-loop : tie.InvT-loop
-Inv-loop text₀ out₀ player₀ turns₀ text out player turns = (length text ≡ length text₀) × (length out ≡ length out₀)
+Inv-loop text₀ kept₀ out₀ player₀ turns₀ text kept out player turns =
+    (length text ≡ length text₀) × (length kept ≡ length kept₀) × (length out ≡ length out₀)
 
 abbrev μ-loop : tie.MeasureT-loop
-μ-loop text₀ out₀ player₀ turns₀ text out player turns = turns
+μ-loop text₀ kept₀ out₀ player₀ turns₀ text kept out player turns = turns
 
 opened-requires : tie.Need-opened-requires Inv-loop μ-loop
 opened-requires c κs = search needs
@@ -39,6 +40,9 @@ same-length c = search needs
 same-length-2 : tie.Need-same-length-2 Inv-loop μ-loop
 same-length-2 c = search needs
 
+same-length-3 : tie.Need-same-length-3 Inv-loop μ-loop
+same-length-3 c = search needs
+
 returns : tie.Need-returns Inv-loop μ-loop
 returns c = search needs
 
@@ -57,4 +61,5 @@ play-spec =
     finish-requires
     same-length
     same-length-2
+    same-length-3
     returns)
