@@ -12,12 +12,12 @@ use Rattle.frame.specs.Contracts.{fits}
 use Rattle.orders.specs.declared.ends.Pending.{Pending}
 
 -- `module` and the space behind it, in ASCII
-abbrev pub word : List ℕ
-word = 109 ∷ 111 ∷ 100 ∷ 117 ∷ 108 ∷ 101 ∷ 32 ∷ []
+abbrev pub moduleWord : List ℕ
+moduleWord = 109 ∷ 111 ∷ 100 ∷ 117 ∷ 108 ∷ 101 ∷ 32 ∷ []
 
 -- a line of n bytes, which stand first in the text, begins with that word
 abbrev pub AsksModule : List ℕ → ℕ → Type 0
-AsksModule text n = (7 ≤ n) × (take 7 text ≡ word)
+AsksModule text n = (7 ≤ n) × (take 7 text ≡ moduleWord)
 
 -- its call stands behind the word, and else at the front
 pub record CallAt (text : List ℕ) (n r : ℕ) : Type 0 where

@@ -8,7 +8,7 @@ use Prim.Native.Nat.{ℕ, _≤_}
 use native.Mathlib.Omega.{arith}
 use lib.ListN.{length, take, length-take}
 use denote.Ref.{now}
-use Rattle.orders.specs.Ends.{word, AsksModule, CallAt}
+use Rattle.orders.specs.Ends.{AsksModule, CallAt}
 use Rattle.orders.proofs.ends.call_at.Statement.{statement}
 use Rattle.orders.proofs.ends.call_at.Tie as tie
 
