@@ -95,8 +95,8 @@ fn body_in(core: Core, p: Partial, body: &mut [u8; MAX_BODY], b: u8) -> Answered
         hearing: hearing,
         job: job,
         bad: core.bad,
-        size: core.size,
         choice: choice,
+        size: core.size,
     };
     AnsweredIn {
         core: next,

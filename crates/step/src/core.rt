@@ -10,10 +10,10 @@ pub struct Core {
     pub job: Job,
     // The run of bad sums.
     pub bad: u8,
+    // What the link was opened as. It stands where it makes a link no longer: between a number of one byte and one of two.
+    pub choice: Choice,
     // The length of the held frame.
     pub size: u16,
-    // What the link was opened as.
-    pub choice: Choice,
 }
 
 impl Core {
@@ -25,8 +25,8 @@ impl Core {
             hearing: Hearing::Hunting,
             job: Job::Idle,
             bad: 0,
-            size: 0,
             choice: choice,
+            size: 0,
         }
     }
 }
