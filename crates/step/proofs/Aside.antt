@@ -71,9 +71,17 @@ act-aside R role size TickHunting j h = absurd (no h)
 act-aside R role size TickInside j h = absurd (no h)
 act-aside R role size Aborted j h = absurd (no h)
 
--- and reception need not ask it what it awaits: the host does not cancel, and nobody does but while an ACK is awaited
-end-said : (role : Role) (e : End) (j : Job) → heedsEnds role j ≡ false → saidEnd role e (awaitedBy j) ≡ saidEnd role e awaited.Nothing
-end-said role e Idle h = refl
+-- and reception need not ask what it awaits, nor who hears: the host does not cancel, and nobody does but while an ACK is awaited
+none-cancelled : (role : Role) (e : End) → saidEnd role e awaited.Nothing ≡ saidEnd Host e awaited.Nothing
+none-cancelled Host e = refl
+none-cancelled Module end.BadLength = refl
+none-cancelled Module end.BadSum = refl
+none-cancelled Module end.Reserved = refl
+none-cancelled Module (end.Request size) = refl
+none-cancelled Module (end.Response size command) = refl
+
+end-said : (role : Role) (e : End) (j : Job) → heedsEnds role j ≡ false → saidEnd role e (awaitedBy j) ≡ saidEnd Host e awaited.Nothing
+end-said role e Idle h = none-cancelled role e
 end-said role e (Due a n) h = absurd (no h)
 end-said Host end.BadLength (Waiting a n t) h = refl
 end-said Host end.BadSum (Waiting a n t) h = refl
@@ -81,10 +89,10 @@ end-said Host end.Reserved (Waiting a n t) h = refl
 end-said Host (end.Request size) (Waiting a n t) h = refl
 end-said Host (end.Response size command) (Waiting a n t) h = refl
 end-said Module e (Waiting a n t) h = absurd (no h)
-end-said role e (BackingOff a n l) h = refl
+end-said role e (BackingOff a n l) h = none-cancelled role e
 end-said role e (Awaiting c n t) h = absurd (no h)
 
-pub said-aside : (role : Role) (e : Event) (j : Job) → concerns role e j ≡ false → saidOn role e (awaitedBy j) ≡ saidOn role e awaited.Nothing
+pub said-aside : (role : Role) (e : Event) (j : Job) → concerns role e j ≡ false → saidOn role e (awaitedBy j) ≡ saidOn Host e awaited.Nothing
 said-aside role Inside j h = refl
 said-aside role (Kept at) j h = refl
 said-aside role Skipped j h = refl

@@ -27,6 +27,7 @@ ghost use mathlib.Core.Path.{_≡_};
 ghost use mathlib.Core.Bool.{false};
 ghost use Prim.Native.Nat.{ℕ};
 ghost use Rattle.rules.specs.Rules.{rulesOf};
+ghost use Rattle.rules.specs.declared.Choice.{Choice};
 ghost use Rattle.step.specs.Contracts as ways;
 ghost use Rattle.step.specs.Deciding as spec;
 
@@ -137,12 +138,12 @@ fn stray_on(event: Event) -> Sending
     }
 }
 
-// The same for an event that does not concern the job: short, and what a byte or a run of bytes mostly meets.
-fn decide_aside(choice: Choice, job: Job, bad: u8, event: Event) -> Outcome
-    ensures { λ r. ⌜ (ways.concerns (choice .role) event job ≡ false → (size : ℕ) → r ≡ spec.decide (rulesOf choice) size event job bad) ⌝ }
+// The same for an event that does not concern the job: short, and what a byte or a run of bytes mostly meets. Whoever hears it
+// says what the host says.
+fn decide_aside(job: Job, bad: u8, event: Event) -> Outcome
+    ensures { λ r. ⌜ ((c : Choice) → ways.concerns (c .role) event job ≡ false → (size : ℕ) → r ≡ spec.decide (rulesOf c) size event job bad) ⌝ }
 {
-    let role = choice.role;
-    let said = said_on(role, event, Awaited::Nothing);
+    let said = said_on(Role::Host, event, Awaited::Nothing);
     let sums = sums_on(event, bad);
     let sending = stray_on(event);
     let reception = said.reception;
@@ -194,7 +195,7 @@ pub fn decide(choice: Choice, job: Job, bad: u8, size: u16, event: Event) -> Out
         let open = decide_open(choice, job, bad, size, event);
         return anew(open);
     }
-    decide_aside(choice, job, bad, event)
+    decide_aside(job, bad, event)
 }
 
 // An act beside which reception says this, and puts out no byte.

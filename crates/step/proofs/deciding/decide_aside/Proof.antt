@@ -17,9 +17,9 @@ stray-on-requires : tie.Need-stray-on-requires
 stray-on-requires c κs = search needs
 
 returns : tie.Need-returns
-returns c h size =
+returns c k h size =
     let a = c .before .before .before .args in
-    simp (act-aside (rulesOf (a .choice)) (a .choice .role) size (a .event) (a .job) h, said-aside (a .choice .role) (a .event) (a .job) h, c .stray-on .ensures, c .before .sums-on .ensures, c .before .before .said-on .ensures, either-none (sumsOn (a .event) (a .bad) .reset))
+    simp (act-aside (rulesOf k) (k .role) size (a .event) (a .job) h, said-aside (k .role) (a .event) (a .job) h, c .stray-on .ensures, c .before .sums-on .ensures, c .before .before .said-on .ensures, either-none (sumsOn (a .event) (a .bad) .reset))
 
 pub decide-aside-spec : {M : Type 1} → statement M
 decide-aside-spec = tie.close (tie.spec said-on-requires sums-on-requires stray-on-requires returns)
