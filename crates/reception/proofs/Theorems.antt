@@ -1,6 +1,6 @@
 -- Reception's promises fix their answers (document 01, section 12).
 --     is-awaited-determined  whether a response is the awaited one
---     said-on-determined     what reception says of an event
+--     said-on-determined, said-as-host-determined   what reception says of an event, and what the host says
 --     sums-on-determined     the run of bad sums after an event
 -- And the stand-in's one rule: what it cancels, and that it says as the host says of all else.
 --     cancels-frames, cancelled-ends-the-run   a frame of Type 00 or 01 while an ACK is awaited; the run of bad sums is 0 after it
@@ -35,6 +35,9 @@ is-awaited-determined command w = fixed
 
 pub said-on-determined : (role : Role) (e : Event) (w : Awaited) {r q : Said} → r ≡ saidOn role e w → q ≡ saidOn role e w → r ≡ q
 said-on-determined role e w = fixed
+
+pub said-as-host-determined : (e : Event) (w : Awaited) {r q : Said} → r ≡ saidOn Host e w → q ≡ saidOn Host e w → r ≡ q
+said-as-host-determined e w = fixed
 
 pub sums-on-determined : (e : Event) (bad : ℕ) {r q : Sums} → r ≡ sumsOn e bad → q ≡ sumsOn e bad → r ≡ q
 sums-on-determined e bad = fixed

@@ -7,6 +7,7 @@ pub use said::Awaited;
 pub use said::Reply;
 pub use said::Said;
 pub use said::is_awaited;
+pub use said::said_as_host;
 pub use said::said_on;
 pub use sums::Sums;
 pub use sums::sums_on;

@@ -11,6 +11,7 @@ use reception::Awaited;
 use reception::Reply;
 use reception::Said;
 use reception::Sums;
+use reception::said_as_host;
 use reception::said_on;
 use reception::sums_on;
 use report::Reception;
@@ -143,7 +144,7 @@ fn stray_on(event: Event) -> Sending
 fn decide_aside(job: Job, bad: u8, event: Event) -> Outcome
     ensures { λ r. ⌜ ((c : Choice) → ways.concerns (c .role) event job ≡ false → (size : ℕ) → r ≡ spec.decide (rulesOf c) size event job bad) ⌝ }
 {
-    let said = said_on(Role::Host, event, Awaited::Nothing);
+    let said = said_as_host(event, Awaited::Nothing);
     let sums = sums_on(event, bad);
     let sending = stray_on(event);
     let reception = said.reception;

@@ -1,83 +1,70 @@
 -- `reception::said::said_on` meets its contract.
 -- Assumes nothing.
-use types.Run.{OneOf, miss}
-use denote.Enum.Declared.{tagOf}
-use mathlib.Core.List.{List, [], _∷_}
-use Prim.Native.Nat.{ℕ}
-use mathlib.Core.Path.{_≡_, refl}
+use mathlib.Core.Path.{_≡_, refl, ap, sym, _∙_}
+use mathlib.Core.Bool.{Bool, true, false}
+use Rattle.refusals.proofs.Picks.{no}
+use Rattle.hearing.specs.declared.hearing.End.the-variants as end
 use Rattle.hearing.specs.declared.hearing.Event.{Event}
 use Rattle.hearing.specs.declared.hearing.Event.the-variants.{Inside, Kept, Skipped, Alone, Ended, TickHunting, TickInside, Aborted}
-use Rattle.hearing.proofs.hearing.Event.{the-type}
 use Rattle.rules.specs.declared.Role.{Role}
+use Rattle.rules.specs.declared.Role.the-variants.{Host, Module}
 use Rattle.reception.specs.declared.said.Awaited.{Awaited}
-use Rattle.report.specs.declared.Reception.the-variants as reception
-use Rattle.reception.specs.declared.said.Reply.the-variants.{Silent}
-use Rattle.reception.specs.Said.{saying, saidOn}
+use Rattle.reception.specs.declared.said.Awaited.the-variants as awaited
+use Rattle.reception.specs.declared.said.Said.{Said}
+use Rattle.reception.specs.Said.{cancels, saidOn}
+use Rattle.reception.specs.Contracts.{inPlaceOf}
+use Rattle.reception.proofs.Theorems.{alike}
 use borrow.Author.Needs.{needs}
 use Rattle.reception.proofs.said.said_on.Statement.{statement}
 use Rattle.reception.proofs.said.said_on.Tie as tie
 
--- of these reception says nothing
-abbrev others : List ℕ
-others = 0 ∷ 1 ∷ 3 ∷ 5 ∷ 6 ∷ []
+-- a stand-in that awaits an ACK
+cancelling : (e : Event) → inPlaceOf (saidOn Host e awaited.Ack) ≡ saidOn Module e awaited.Ack
+cancelling Inside = refl
+cancelling (Kept at) = refl
+cancelling Skipped = refl
+cancelling (Alone s) = refl
+cancelling (Ended end.BadLength) = refl
+cancelling (Ended end.BadSum) = refl
+cancelling (Ended end.Reserved) = refl
+cancelling (Ended (end.Request size)) = refl
+cancelling (Ended (end.Response size command)) = refl
+cancelling TickHunting = refl
+cancelling TickInside = refl
+cancelling Aborted = refl
 
-silent : (role : Role) (x : Event) (w : Awaited) → OneOf others (tagOf the-type x) → saidOn role x w ≡ saying reception.Nothing Silent 0
-silent role Inside w m = refl
-silent role (Kept at) w m = refl
-silent role Skipped w m = absurd (miss others 2 tt m)
-silent role (Alone s) w m = refl
-silent role (Ended e) w m = absurd (miss others 4 tt m)
-silent role TickHunting w m = refl
-silent role TickInside w m = refl
-silent role Aborted w m = absurd (miss others 7 tt m)
+-- where something is cancelled, and where nothing is
+some : (role : Role) (e : Event) (w : Awaited) → cancels role w ≡ true → inPlaceOf (saidOn Host e w) ≡ saidOn role e w
+some Host e w q = absurd (no (sym q))
+some Module e awaited.Nothing q = absurd (no (sym q))
+some Module e awaited.Ack q = cancelling e
+some Module e (awaited.Response c) q = absurd (no (sym q))
 
-enum-told : tie.Need-enum-told
-enum-told c = search needs
+none : (role : Role) (e : Event) (w : Awaited) → cancels role w ≡ false → saidOn Host e w ≡ saidOn role e w
+none Host e w q = refl
+none Module e w q = sym (alike e w q)
 
-saying-requires : tie.Need-saying-requires
-saying-requires c κs = search needs
+said-as-host-requires : tie.Need-said-as-host-requires
+said-as-host-requires c κs = search needs
 
-enum-known-event : tie.Need-enum-known-event
-enum-known-event c = search needs
+cancels-requires : tie.Need-cancels-requires
+cancels-requires c κs = search needs
 
-said-end-requires : tie.Need-said-end-requires
-said-end-requires c κs = search needs
-
-enum-told-2 : tie.Need-enum-told-2
-enum-told-2 c = search needs
-
-saying-requires-2 : tie.Need-saying-requires-2
-saying-requires-2 c κs = search needs
-
-saying-requires-3 : tie.Need-saying-requires-3
-saying-requires-3 c κs = search needs
+in-place-of-requires : tie.Need-in-place-of-requires
+in-place-of-requires c κs = search needs
 
 returns : tie.Need-returns
-returns c = simp (c .before .enum-told .given .1, c .saying .ensures)
+returns c =
+    let a = c .before .before .before .before .args in
+    c .in-place-of .ensures ∙ ap inPlaceOf (c .before .before .before .said-as-host .ensures)
+    ∙ some (a .role) (a .event) (a .awaited) (sym (c .before .before .cancels .ensures) ∙ c .before .if1 .taken)
 
 returns-2 : tie.Need-returns-2
-returns-2 c = simp (c .before .before .event .given .1, c .said-end .ensures)
-
-returns-3 : tie.Need-returns-3
-returns-3 c = simp (c .before .enum-told2 .given .1, c .saying2 .ensures)
-
-returns-4 : tie.Need-returns-4
-returns-4 c =
-    let a = c .before .before .args in
-    simp (silent (a .role) (a .event) (a .awaited) (c .before .match .keys4), c .saying3 .ensures)
+returns-2 c =
+    let a = c .before .before .before .args in
+    c .before .before .said-as-host .ensures ∙ none (a .role) (a .event) (a .awaited) (sym (c .before .cancels .ensures) ∙ c .if1 .left)
 
 pub said-on-spec : {M : Type 1} → statement M
 said-on-spec =
     tie.close
-    (tie.spec
-    enum-told
-    saying-requires
-    enum-known-event
-    said-end-requires
-    enum-told-2
-    saying-requires-2
-    saying-requires-3
-    returns
-    returns-2
-    returns-3
-    returns-4)
+    (tie.spec said-as-host-requires cancels-requires in-place-of-requires returns returns-2)

@@ -7,8 +7,8 @@ use borrow.Author.Needs.{needs}
 use Rattle.step.proofs.deciding.decide_aside.Statement.{statement}
 use Rattle.step.proofs.deciding.decide_aside.Tie as tie
 
-said-on-requires : tie.Need-said-on-requires
-said-on-requires c κs = search needs
+said-as-host-requires : tie.Need-said-as-host-requires
+said-as-host-requires c κs = search needs
 
 sums-on-requires : tie.Need-sums-on-requires
 sums-on-requires c κs = search needs
@@ -19,7 +19,7 @@ stray-on-requires c κs = search needs
 returns : tie.Need-returns
 returns c k h size =
     let a = c .before .before .before .args in
-    simp (act-aside (rulesOf k) (k .role) size (a .event) (a .job) h, said-aside (k .role) (a .event) (a .job) h, c .stray-on .ensures, c .before .sums-on .ensures, c .before .before .said-on .ensures, either-none (sumsOn (a .event) (a .bad) .reset))
+    simp (act-aside (rulesOf k) (k .role) size (a .event) (a .job) h, said-aside (k .role) (a .event) (a .job) h, c .stray-on .ensures, c .before .sums-on .ensures, c .before .before .said-as-host .ensures, either-none (sumsOn (a .event) (a .bad) .reset))
 
 pub decide-aside-spec : {M : Type 1} → statement M
-decide-aside-spec = tie.close (tie.spec said-on-requires sums-on-requires stray-on-requires returns)
+decide-aside-spec = tie.close (tie.spec said-as-host-requires sums-on-requires stray-on-requires returns)
