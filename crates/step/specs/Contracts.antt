@@ -9,8 +9,6 @@ use Rattle.report.specs.declared.Sending.{Sending}
 use Rattle.report.specs.declared.Sending.the-variants as sending
 use Rattle.job.specs.declared.job.Job.{Job}
 use Rattle.job.specs.declared.job.Job.the-variants.{Idle, Due, Waiting, BackingOff, Awaiting}
-use Rattle.rules.specs.Rules.{isModule}
-use Rattle.rules.specs.declared.Role.{Role}
 use Rattle.step.specs.Checks.{roomChecks, sendOwn, sessionOwn}
 use Rattle.step.specs.declared.checks.Checked.{Checked}
 
@@ -29,23 +27,23 @@ isWaiting (BackingOff a n l) = false
 isWaiting (Awaiting c n e) = false
 
 -- a due copy goes out at the end of a frame, a session may have its response there, and a stand-in that waits for an ACK cancels
-abbrev pub heedsEnds : Role → Job → Bool
-heedsEnds role Idle = false
-heedsEnds role (Due a n) = true
-heedsEnds role (Waiting a n e) = isModule role
-heedsEnds role (BackingOff a n l) = false
-heedsEnds role (Awaiting c n e) = true
+abbrev pub heedsEnds : Job → Bool
+heedsEnds Idle = false
+heedsEnds (Due a n) = true
+heedsEnds (Waiting a n e) = true
+heedsEnds (BackingOff a n l) = false
+heedsEnds (Awaiting c n e) = true
 
 -- whether an event may do something to the job, or the job has a say in it
-abbrev pub concerns : Role → Event → Job → Bool
-concerns role Inside j = false
-concerns role (Kept at) j = false
-concerns role Skipped j = false
-concerns role (Alone s) j = isWaiting j
-concerns role (Ended e) j = heedsEnds role j
-concerns role TickHunting j = true
-concerns role TickInside j = true
-concerns role Aborted j = true
+abbrev pub concerns : Event → Job → Bool
+concerns Inside j = false
+concerns (Kept at) j = false
+concerns Skipped j = false
+concerns (Alone s) j = isWaiting j
+concerns (Ended e) j = heedsEnds j
+concerns TickHunting j = true
+concerns TickInside j = true
+concerns Aborted j = true
 
 -- what an event says of the sender where it does not concern the job: a single byte is stray
 abbrev pub strayOn : Event → Sending

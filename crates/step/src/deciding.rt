@@ -19,8 +19,6 @@ use report::Reset;
 use report::Sending;
 use report::Session;
 use rules::Choice;
-use rules::Role;
-use rules::is_module;
 use sending::awaited_by;
 use sending::on_event;
 use sending::on_restart;
@@ -105,26 +103,26 @@ fn is_waiting(job: Job) -> bool
 }
 
 // The end of a frame matters to a due copy, which then goes out, and to a session that awaits its response. And a stand-in cancels
-// a frame while it waits for an ACK.
-fn heeds_ends(role: Role, job: Job) -> bool
-    ensures { λ r. ⌜ r ≡ ways.heedsEnds role job ⌝ }
+// a frame while it waits for an ACK; a host does not, but to ask for the role here would make the short way longer.
+fn heeds_ends(job: Job) -> bool
+    ensures { λ r. ⌜ r ≡ ways.heedsEnds job ⌝ }
 {
     match job {
         Job::Due { .. } => true,
-        Job::Waiting { .. } => is_module(role),
+        Job::Waiting { .. } => true,
         Job::Awaiting { .. } => true,
         _ => false,
     }
 }
 
 // Whether an event may do something to this job, or the job has a say in it: a tick or an abort concerns any.
-fn concerns(role: Role, event: Event, job: Job) -> bool
-    ensures { λ r. ⌜ r ≡ ways.concerns role event job ⌝ }
+fn concerns(event: Event, job: Job) -> bool
+    ensures { λ r. ⌜ r ≡ ways.concerns event job ⌝ }
 {
     match event {
         Event::Inside | Event::Kept { at: _ } | Event::Skipped => false,
         Event::Alone(_) => is_waiting(job),
-        Event::Ended(_) => heeds_ends(role, job),
+        Event::Ended(_) => heeds_ends(job),
         _ => true,
     }
 }
@@ -142,7 +140,7 @@ fn stray_on(event: Event) -> Sending
 // The same for an event that does not concern the job: short, and what a byte or a run of bytes mostly meets. Whoever hears it
 // says what the host says.
 fn decide_aside(job: Job, bad: u8, event: Event) -> Outcome
-    ensures { λ r. ⌜ ((c : Choice) → ways.concerns (c .role) event job ≡ false → (size : ℕ) → r ≡ spec.decide (rulesOf c) size event job bad) ⌝ }
+    ensures { λ r. ⌜ (ways.concerns event job ≡ false → (c : Choice) → (size : ℕ) → r ≡ spec.decide (rulesOf c) size event job bad) ⌝ }
 {
     let said = said_as_host(event, Awaited::Nothing);
     let sums = sums_on(event, bad);
@@ -191,8 +189,7 @@ fn anew(outcome: Outcome) -> Outcome
 pub fn decide(choice: Choice, job: Job, bad: u8, size: u16, event: Event) -> Outcome
     ensures { λ r. ⌜ r ≡ spec.decide (rulesOf choice) size event job bad ⌝ }
 {
-    let role = choice.role;
-    if concerns(role, event, job) {
+    if concerns(event, job) {
         let open = decide_open(choice, job, bad, size, event);
         return anew(open);
     }

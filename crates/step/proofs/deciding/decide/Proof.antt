@@ -23,7 +23,7 @@ decide-aside-requires c κs = search needs
 returns-2 : tie.Need-returns-2
 returns-2 c =
     let a = c .before .before .before .args in
-    c .decide-aside .ensures (a .choice) (sym (c .before .before .concerns .ensures) ∙ c .before .if1 .left) (a .size)
+    c .decide-aside .ensures (sym (c .before .before .concerns .ensures) ∙ c .before .if1 .left) (a .choice) (a .size)
 
 pub decide-spec : {M : Type 1} → statement M
 decide-spec =

@@ -17,9 +17,9 @@ stray-on-requires : tie.Need-stray-on-requires
 stray-on-requires c κs = search needs
 
 returns : tie.Need-returns
-returns c k h size =
+returns c h k size =
     let a = c .before .before .before .args in
-    simp (act-aside (rulesOf k) (k .role) size (a .event) (a .job) h, said-aside (k .role) (a .event) (a .job) h, c .stray-on .ensures, c .before .sums-on .ensures, c .before .before .said-as-host .ensures, either-none (sumsOn (a .event) (a .bad) .reset))
+    simp (act-aside (rulesOf k) size (a .event) (a .job) h, said-aside (k .role) (a .event) (a .job) h, c .stray-on .ensures, c .before .sums-on .ensures, c .before .before .said-as-host .ensures, either-none (sumsOn (a .event) (a .bad) .reset))
 
 pub decide-aside-spec : {M : Type 1} → statement M
 decide-aside-spec = tie.close (tie.spec said-as-host-requires sums-on-requires stray-on-requires returns)

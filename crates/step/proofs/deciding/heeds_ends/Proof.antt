@@ -6,7 +6,6 @@ use mathlib.Core.List.{List, [], _∷_}
 use Prim.Native.Nat.{ℕ}
 use mathlib.Core.Path.{_≡_, refl}
 use mathlib.Core.Bool.{false}
-use Rattle.rules.specs.declared.Role.{Role}
 use Rattle.job.specs.declared.job.Job.{Job}
 use Rattle.job.specs.declared.job.Job.the-variants.{Idle, Due, Waiting, BackingOff, Awaiting}
 use Rattle.job.proofs.job.Job.{the-type}
@@ -19,21 +18,18 @@ use Rattle.step.proofs.deciding.heeds_ends.Tie as tie
 abbrev others : List ℕ
 others = 0 ∷ 3 ∷ []
 
-no-heed : (role : Role) (x : Job) → OneOf others (tagOf the-type x) → false ≡ heedsEnds role x
-no-heed role Idle m = refl
-no-heed role (Due a n) m = absurd (miss others 1 tt m)
-no-heed role (Waiting a n e) m = absurd (miss others 2 tt m)
-no-heed role (BackingOff a n l) m = refl
-no-heed role (Awaiting c n e) m = absurd (miss others 4 tt m)
+no-heed : (x : Job) → OneOf others (tagOf the-type x) → false ≡ heedsEnds x
+no-heed Idle m = refl
+no-heed (Due a n) m = absurd (miss others 1 tt m)
+no-heed (Waiting a n e) m = absurd (miss others 2 tt m)
+no-heed (BackingOff a n l) m = refl
+no-heed (Awaiting c n e) m = absurd (miss others 4 tt m)
 
 enum-told : tie.Need-enum-told
 enum-told c = search needs
 
 enum-told-2 : tie.Need-enum-told-2
 enum-told-2 c = search needs
-
-is-module-requires : tie.Need-is-module-requires
-is-module-requires c κs = search needs
 
 enum-told-3 : tie.Need-enum-told-3
 enum-told-3 c = search needs
@@ -48,19 +44,8 @@ returns-3 : tie.Need-returns-3
 returns-3 c = search needs
 
 returns-4 : tie.Need-returns-4
-returns-4 c =
-    let a = c .before .args in
-    no-heed (a .role) (a .job) (c .match .keys4)
+returns-4 c = no-heed (c .before .args .job) (c .match .keys4)
 
 pub heeds-ends-spec : {M : Type 1} → statement M
 heeds-ends-spec =
-    tie.close
-    (tie.spec
-    enum-told
-    enum-told-2
-    is-module-requires
-    enum-told-3
-    returns
-    returns-2
-    returns-3
-    returns-4)
+    tie.close (tie.spec enum-told enum-told-2 enum-told-3 returns returns-2 returns-3 returns-4)
