@@ -1,17 +1,16 @@
--- What `write` stores, one store behind the other, is the frame over the lent bytes.
+-- What `write` stores, one store behind the other, is the frame over the lent bytes, and what it folds is the checksum.
 -- Assumes nothing.
-use mathlib.Core.Path.{_≡_, ap, _∙_}
-use mathlib.Core.Bool.{Bool}
+use mathlib.Core.Path.{_≡_, refl, ap, _∙_}
 use mathlib.Core.List.{List, [], _∷_, _++_}
-use Prim.Native.Nat.{ℕ, _+_, _-_, _≤_, _<_}
+use Prim.Native.Nat.{ℕ, _+_, _≤_, _<_}
 use native.Mathlib.Nat.{le-refl}
 use native.Mathlib.Omega.{arith}
-use lib.ListN.{length, take, drop, set, length-set}
-use lib.Seq.{paste, take-at, take-length}
+use lib.ListN.{length, set}
+use lib.Seq.{paste, take-length}
+use lib.Bits.{bitXor}
 use Rattle.frame.specs.Bytes.{over, fold}
-use Rattle.frame.specs.Contracts.{Lay}
 use Rattle.frame.specs.Frame.{counted, checksum, frameOf}
-use Rattle.frame.proofs.Over.{put-byte, put-bytes, laid-in}
+use Rattle.frame.proofs.Over.{over-length, put-byte, put-bytes}
 
 -- four stores at the front
 abbrev pub headed : List ℕ → ℕ → ℕ → ℕ → ℕ → List ℕ
@@ -27,28 +26,30 @@ head-over d a b k m h =
     ∙ ap (λ (l : List ℕ). set l 3 m) (put-byte (a ∷ b ∷ []) d k h₃)
     ∙ put-byte (a ∷ b ∷ k ∷ []) d m h
 
--- the parameters behind them
-pub laid-over : (d ps : List ℕ) (kind command : ℕ) {r : Bool} {d′ : List ℕ} → length ps + 5 ≤ length d
-    → Lay ps (length ps) (headed d 1 (length ps + 3) kind command) 4 r d′ → d′ ≡ over (1 ∷ counted kind command ps) d
-laid-over d ps kind command h laid =
-    laid-in (le-refl (length ps)) (simp length-set (omega arith)) laid
-    ∙ ap (λ (l : List ℕ). paste l 4 ps (length ps)) (head-over d 1 (length ps + 3) kind command (omega arith))
-    ∙ put-bytes (1 ∷ (length ps + 3) ∷ kind ∷ command ∷ []) ps d (length ps) (le-refl (length ps))
-    ∙ ap (λ (l : List ℕ). over (1 ∷ (length ps + 3) ∷ kind ∷ command ∷ l) d) (take-length ps)
+module _ (d ps : List ℕ) (kind command : ℕ) (room : length ps + 5 ≤ length d) where
+  -- the parameters behind them
+  pub laid-over : {d′ : List ℕ} → d′ ≡ paste (headed d 1 (length ps + 3) kind command) 4 ps (length ps) → d′ ≡ over (1 ∷ counted kind command ps) d
+  laid-over laid =
+      laid
+      ∙ ap (λ (l : List ℕ). paste l 4 ps (length ps)) (head-over d 1 (length ps + 3) kind command (omega arith))
+      ∙ put-bytes (1 ∷ (length ps + 3) ∷ kind ∷ command ∷ []) ps d (length ps) (le-refl (length ps))
+      ∙ ap (λ (l : List ℕ). over (1 ∷ (length ps + 3) ∷ kind ∷ command ∷ l) d) (take-length ps)
 
--- and the checksum of what stands there
-pub framed-over : (d ps : List ℕ) (kind command v : ℕ) {d′ : List ℕ} → length ps + 5 ≤ length d
-    → d′ ≡ over (1 ∷ counted kind command ps) d
-    → v ≡ fold 255 (take (length ps + 4 - 1) (drop 1 d′))
-    → set d′ (length ps + 4) v ≡ over (frameOf kind command ps) d
-unfolding frameOf
-framed-over d ps kind command v {d′} h e f =
-    let n : length (counted kind command ps) ≡ length ps + 4 - 1 = omega arith in
-    let s : v ≡ checksum (counted kind command ps) =
-    f ∙ ap (λ (l : List ℕ). fold 255 (take (length ps + 4 - 1) (drop 1 l))) e
-    ∙ ap (λ (l : List ℕ). fold 255 l) (take-at (counted kind command ps) (drop (length (1 ∷ counted kind command ps)) d) (length ps + 4 - 1) n) in
-    let at : length ps + 4 ≡ length (1 ∷ counted kind command ps) = omega arith in
-    ap (λ (l : List ℕ). set l (length ps + 4) v) e
-    ∙ ap (λ (i : ℕ). set (over (1 ∷ counted kind command ps) d) i v) at
-    ∙ put-byte (1 ∷ counted kind command ps) d v (omega arith)
-    ∙ ap (λ (x : ℕ). over ((1 ∷ counted kind command ps) ++ (x ∷ [])) d) s
+  pub laid-over-length : {d′ : List ℕ} → d′ ≡ paste (headed d 1 (length ps + 3) kind command) 4 ps (length ps) → length d′ ≡ length d
+  laid-over-length laid = ap length (laid-over laid) ∙ over-length (1 ∷ counted kind command ps) d (omega arith)
+
+  -- the checksum behind these
+  pub framed-over : {d′ : List ℕ} {v : ℕ} → d′ ≡ over (1 ∷ counted kind command ps) d → v ≡ checksum (counted kind command ps)
+      → set d′ (length ps + 4) v ≡ over (frameOf kind command ps) d
+  unfolding frameOf
+  framed-over {d′} {v} e s =
+      let at : length ps + 4 ≡ length (1 ∷ counted kind command ps) = omega arith in
+      ap (λ (l : List ℕ). set l (length ps + 4) v) e
+      ∙ ap (λ (i : ℕ). set (over (1 ∷ counted kind command ps) d) i v) at
+      ∙ put-byte (1 ∷ counted kind command ps) d v (omega arith)
+      ∙ ap (λ (x : ℕ). over ((1 ∷ counted kind command ps) ++ (x ∷ [])) d) s
+
+-- FF with Length, Type and Command folded in, and then the parameters, is the checksum.
+pub folded-whole : (kind command : ℕ) (ps : List ℕ) → fold (bitXor (bitXor (bitXor 255 (length ps + 3)) kind) command) ps ≡ checksum (counted kind command ps)
+unfolding fold
+folded-whole kind command ps = refl

@@ -1,6 +1,7 @@
 -- Writing over a buffer's front: `over bs d` is the buffer d with bs over its first bytes.
 --     put-byte        a store right behind bs
 --     put-bytes       a copy right behind bs
+--     paste-more      a store behind the first j bytes of a copy
 --     over-one        a store at the front
 --     over-paste      a copy to the front; over-paste-1: behind one byte stored there
 --     laid-in         what `lay` leaves where all of it fits; laid-length: as many bytes as there were
@@ -14,8 +15,8 @@ use native.Mathlib.Numerals.{add-one, one-add}
 use native.Mathlib.Nat.{zero-add, le-of-lt, min-eq-left, min-eq-right, not-suc-le-zero}
 use native.Mathlib.Omega.{arith}
 use lib.Dec.{leb, ltb}
-use lib.ListN.{length, take, set, length-append, length-take, length-drop}
-use lib.Seq.{paste, length-paste, take-all, take-append-seam, drop-append-add, drop-drop, length-take-le, drop-cons, set-append-seam, append-snoc, take-length}
+use lib.ListN.{length, getD, take, set, length-append, length-take, length-drop}
+use lib.Seq.{paste, paste-suc, length-paste, take-all, take-append-seam, drop-append-add, drop-drop, length-take-le, drop-cons, set-append-seam, append-snoc, take-length}
 use borrow.Author.Tests.{leb-true, leb-false, le-ltb, ltb-false}
 use Rattle.refusals.specs.Pick.{pick}
 use Rattle.frame.specs.Bytes.{over}
@@ -29,6 +30,10 @@ put-byte bs d v h = rw (drop-cons d (length bs) 0 h) (simp (set-append-seam, len
 
 pub put-bytes : (bs s d : List ℕ) (n : ℕ) → n ≤ length s → paste (over bs d) (length bs) s n ≡ over (bs ++ take n s) d
 put-bytes bs s d n h = simp (take-append-seam, drop-append-add, drop-drop, length-append, length-take-le n s h)
+
+pub paste-more : (d : List ℕ) (at : ℕ) (s : List ℕ) (j : ℕ) {d′ : List ℕ} → at + j < length d → j < length s → d′ ≡ paste d at s j
+    → set d′ (at + j) (getD s j 0) ≡ paste d at s (j + 1)
+paste-more d at s j hd hs e = rw (add-one, ← paste-suc d at s j 0 hd hs) (simp e)
 
 pub over-one : (d : List ℕ) (v : ℕ) → 0 < length d → set d 0 v ≡ over (v ∷ []) d
 over-one d v h = put-byte [] d v h

@@ -5,13 +5,13 @@ use mathlib.Core.Bool.{true, false}
 use mathlib.Core.List.{List}
 use Prim.Native.Nat.{ℕ, _≤_, _<_, _-_, _+_}
 use native.Mathlib.Omega.{arith}
-use native.Mathlib.Numerals.{add-one}
 use native.Mathlib.Nat.{le-antisymm}
 use borrow.Author.Tests.{lt-ltb, le-ltb}
 use lib.ListN.{length, length-set}
-use lib.Seq.{paste, paste-zero, paste-suc}
+use lib.Seq.{paste, paste-zero}
 use denote.Ref.{now}
 use Rattle.frame.specs.Contracts.{Lay}
+use Rattle.frame.proofs.Over.{paste-more}
 use Rattle.frame.proofs.bytes.lay.Statement.{statement}
 use Rattle.frame.proofs.bytes.lay.Tie as tie
 
@@ -72,10 +72,11 @@ loop-less c = omega arith
 loop-again : tie.Need-loop-again Inv-loop μ-loop
 loop-again c =
     let a = c .before .before .before .before .before .before .args in
-    let l = c .before .before .loop in
-    let hd : a .at + l .j < length (now (a .dst)) = omega arith in
-    let hs : l .j < length (now (a .src)) = omega arith in
-    (omega arith, rw (add-one, ← paste-suc (now (a .dst)) (a .at) (now (a .src)) (l .j) 0 hd hs) (simp (l .inv .1)), simp length-set (l .inv .2))
+    let l = c .before .before .loop in (
+      omega arith,
+      paste-more (now (a .dst)) (a .at) (now (a .src)) (l .j) (omega arith) (omega arith) (l .inv .1),
+      simp length-set (l .inv .2),
+    )
 
 same-length : tie.Need-same-length Inv-loop μ-loop
 same-length c = c .before .loop .inv .2
