@@ -8,7 +8,7 @@ fn main() {
     println!("cargo:rustc-link-search=native={libraries}");
     let mut linked = vec!["exports", "exports_in_place", "exports_by_value", "count"];
     if std::env::var("CARGO_FEATURE_BEFORE").is_ok() {
-        linked.push("exports_by_value_before");
+        linked.extend(["exports_before", "exports_by_value_before"]);
     }
     if std::env::var("CARGO_FEATURE_BEFORE_IN_PLACE").is_ok() {
         linked.push("exports_in_place_before");

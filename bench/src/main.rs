@@ -113,9 +113,10 @@ fn race_ticks(what: &str, ready: Ready, n: u64, times: u64) -> Result<Vec<Timed>
     race(what, (n.max(1) * times) as f64, &mut contestants)
 }
 
+const CALLS: u64 = 100_000;
+
 fn race_build(what: &str, parameters: &[u8]) -> Result<Vec<Timed>, String> {
-    const CALLS: u64 = 100_000;
-    fn calls(parameters: &[u8], build: fn(u8, u8, &[u8], &mut [u8]) -> u64) -> Answer {
+    fn calls(parameters: &[u8], build: ways::Build) -> Answer {
         let mut lent = vec![0; 257];
         let mut sum = 0;
         for call in 0..CALLS {
@@ -129,48 +130,37 @@ fn race_build(what: &str, parameters: &[u8]) -> Result<Vec<Timed>, String> {
         }
         Answer(sum, lent)
     }
-    race(
-        what,
-        CALLS as f64,
-        &mut [
-            ("proved", Box::new(|| calls(parameters, proved::build))),
-            ("second", Box::new(|| calls(parameters, second::build))),
-        ],
-    )
+    let mut contestants: Vec<Contestant> = Vec::new();
+    for &(name, build) in ways::BUILD {
+        contestants.push((name, Box::new(move || calls(parameters, build))));
+    }
+    race(what, CALLS as f64, &mut contestants)
 }
 
 fn race_read(what: &str, whole: &[u8]) -> Result<Vec<Timed>, String> {
-    const CALLS: u64 = 100_000;
-    fn calls(whole: &[u8], read: fn(&[u8]) -> u64) -> Answer {
+    fn calls(whole: &[u8], read: ways::Read) -> Answer {
         let mut sum = 0;
         for _ in 0..CALLS {
             sum = numbers::mix(sum, read(black_box(whole)));
         }
         Answer(sum, Vec::new())
     }
-    race(
-        what,
-        CALLS as f64,
-        &mut [
-            ("proved", Box::new(|| calls(whole, proved::read))),
-            ("second", Box::new(|| calls(whole, second::read))),
-        ],
-    )
+    let mut contestants: Vec<Contestant> = Vec::new();
+    for &(name, read) in ways::READ {
+        contestants.push((name, Box::new(move || calls(whole, read))));
+    }
+    race(what, CALLS as f64, &mut contestants)
 }
 
 fn race_count(what: &str, input: &[u8]) -> Result<Vec<Timed>, String> {
     fn told(counts: [u64; 9]) -> Answer {
         Answer(0, counts.iter().flat_map(|n| n.to_le_bytes()).collect())
     }
-    race(
-        what,
-        input.len() as f64,
-        &mut [
-            ("proved", Box::new(|| told(proved::count(input)))),
-            ("second", Box::new(|| told(second::count(input)))),
-            ("C", Box::new(|| told(c::count(input)))),
-        ],
-    )
+    let mut contestants: Vec<Contestant> = Vec::new();
+    for &(name, count) in ways::COUNT {
+        contestants.push((name, Box::new(move || told(count(input)))));
+    }
+    race(what, input.len() as f64, &mut contestants)
 }
 
 /// A frame of so many bytes.
@@ -223,16 +213,17 @@ fn inputs(mixes: Mixes) -> Result<Vec<Row>, String> {
 /// Single frames, built and read.
 fn frames() -> Result<Vec<Row>, String> {
     let mut rows = Vec::new();
-    let targets = [Target::Ratio("second", 1.1)];
+    let build = [Target::Ratio("second", 1.0)];
+    let read = [Target::Ratio("second", 1.1)];
     let mut dice = Dice::new(SEED);
     for size in [5, 64, 257] {
         let frame = frame_of(&mut dice, size);
         let what = format!("build, {size} bytes");
         let times = race_build(&what, &frame[4..size - 1])?;
-        rows.push(Row::new(&what, "ns a call", times, &targets));
+        rows.push(Row::new(&what, "ns a call", times, &build));
         let what = format!("read, {size} bytes");
         let times = race_read(&what, &frame)?;
-        rows.push(Row::new(&what, "ns a call", times, &targets));
+        rows.push(Row::new(&what, "ns a call", times, &read));
     }
     Ok(rows)
 }
@@ -314,7 +305,7 @@ fn by_state() -> Result<Vec<Row>, String> {
 
 /// What the tables are of, as a list.
 fn explain() {
-    println!("- Columns: `proved` is the proved code, its link's calls in place (crate `exports_in_place`); `by value` the same calls with the link by value (crate `exports_by_value`); `second` the second program; `lean` the lean Rust; `C` the C loop.");
+    println!("- Columns: `proved` is the proved code, its link's calls in place (crate `exports_in_place`); `by value` the same calls with the link by value (crate `exports_by_value`); `second` the second program; `lean` the lean Rust, which builds in one pass; `C` the C loop.");
     println!(
         "- Input: {} MiB of each mix, from one seed. Mix A has frames of 5 to 257 bytes with noise of 0 to 16 bytes between, mix B frames of 5 to 14 with noise of 0 to 4; in both, 1 frame in 16 has a bad sum, 1 in 16 is an 01 and a bad Length alone, and 1 in 16 has a reserved type. Byte calls get the first MiB, the tables of sizes the first 4.",
         INPUT / 1024 / 1024

@@ -1,35 +1,37 @@
 //! The proved code, by the C names that `crates/exports`, `crates/exports_in_place` and `crates/exports_by_value` give
 //! it. A slice is a pointer and a length.
 
-#[rustfmt::skip]
-extern "C" {
-    fn sarnaqel_build(kind: u8, command: u8, parameters: *const u8, parameters_size: usize, lent: *mut u8, lent_size: usize) -> u64;
-    fn sarnaqel_count(input: *const u8, size: usize, counts: *mut [u64; 9]);
-    fn sarnaqel_read(bytes: *const u8, size: usize) -> u64;
+/// Building, reading and counting, which need no link: today's and an earlier revision's differ only in their names.
+macro_rules! calls_without_a_link {
+    ($when:ident: $build:ident, $read:ident, $count:ident) => {
+        #[rustfmt::skip]
+        pub mod $when {
+            extern "C" {
+                fn $build(kind: u8, command: u8, parameters: *const u8, parameters_size: usize, lent: *mut u8, lent_size: usize) -> u64;
+                fn $read(bytes: *const u8, size: usize) -> u64;
+                fn $count(input: *const u8, size: usize, counts: *mut [u64; 9]);
+            }
+
+            pub fn build(kind: u8, command: u8, parameters: &[u8], lent: &mut [u8]) -> u64 {
+                unsafe { $build(kind, command, parameters.as_ptr(), parameters.len(), lent.as_mut_ptr(), lent.len()) }
+            }
+
+            pub fn read(bytes: &[u8]) -> u64 {
+                unsafe { $read(bytes.as_ptr(), bytes.len()) }
+            }
+
+            pub fn count(input: &[u8]) -> [u64; 9] {
+                let mut counts = [0; 9];
+                unsafe { $count(input.as_ptr(), input.len(), &mut counts) };
+                counts
+            }
+        }
+    };
 }
 
-pub fn build(kind: u8, command: u8, parameters: &[u8], lent: &mut [u8]) -> u64 {
-    unsafe {
-        sarnaqel_build(
-            kind,
-            command,
-            parameters.as_ptr(),
-            parameters.len(),
-            lent.as_mut_ptr(),
-            lent.len(),
-        )
-    }
-}
-
-pub fn read(bytes: &[u8]) -> u64 {
-    unsafe { sarnaqel_read(bytes.as_ptr(), bytes.len()) }
-}
-
-pub fn count(input: &[u8]) -> [u64; 9] {
-    let mut counts = [0; 9];
-    unsafe { sarnaqel_count(input.as_ptr(), input.len(), &mut counts) };
-    counts
-}
+calls_without_a_link!(now: sarnaqel_build, sarnaqel_read, sarnaqel_count);
+#[cfg(feature = "before")]
+calls_without_a_link!(before: before_sarnaqel_build, before_sarnaqel_read, before_sarnaqel_count);
 
 /// The calls of a link in one of its ways: they differ only in their names.
 macro_rules! calls_of_a_link {
