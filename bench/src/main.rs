@@ -115,8 +115,9 @@ fn race_ticks(what: &str, ready: Ready, n: u64, times: u64) -> Result<Vec<Timed>
 
 const CALLS: u64 = 100_000;
 
+/// Each contestant has a loop of its own, so that none of them is called by a longer way than the others.
 fn race_build(what: &str, parameters: &[u8]) -> Result<Vec<Timed>, String> {
-    fn calls(parameters: &[u8], build: ways::Build) -> Answer {
+    fn calls(parameters: &[u8], build: impl Fn(u8, u8, &[u8], &mut [u8]) -> u64) -> Answer {
         let mut lent = vec![0; 257];
         let mut sum = 0;
         for call in 0..CALLS {
@@ -130,37 +131,57 @@ fn race_build(what: &str, parameters: &[u8]) -> Result<Vec<Timed>, String> {
         }
         Answer(sum, lent)
     }
-    let mut contestants: Vec<Contestant> = Vec::new();
-    for &(name, build) in ways::BUILD {
-        contestants.push((name, Box::new(move || calls(parameters, build))));
-    }
-    race(what, CALLS as f64, &mut contestants)
+    race(
+        what,
+        CALLS as f64,
+        &mut [
+            ("proved", Box::new(|| calls(parameters, proved::now::build))),
+            #[cfg(feature = "before")]
+            (
+                "before",
+                Box::new(|| calls(parameters, proved::before::build)),
+            ),
+            ("second", Box::new(|| calls(parameters, second::build))),
+            ("lean", Box::new(|| calls(parameters, lean::build))),
+        ],
+    )
 }
 
 fn race_read(what: &str, whole: &[u8]) -> Result<Vec<Timed>, String> {
-    fn calls(whole: &[u8], read: ways::Read) -> Answer {
+    fn calls(whole: &[u8], read: impl Fn(&[u8]) -> u64) -> Answer {
         let mut sum = 0;
         for _ in 0..CALLS {
             sum = numbers::mix(sum, read(black_box(whole)));
         }
         Answer(sum, Vec::new())
     }
-    let mut contestants: Vec<Contestant> = Vec::new();
-    for &(name, read) in ways::READ {
-        contestants.push((name, Box::new(move || calls(whole, read))));
-    }
-    race(what, CALLS as f64, &mut contestants)
+    race(
+        what,
+        CALLS as f64,
+        &mut [
+            ("proved", Box::new(|| calls(whole, proved::now::read))),
+            #[cfg(feature = "before")]
+            ("before", Box::new(|| calls(whole, proved::before::read))),
+            ("second", Box::new(|| calls(whole, second::read))),
+        ],
+    )
 }
 
 fn race_count(what: &str, input: &[u8]) -> Result<Vec<Timed>, String> {
     fn told(counts: [u64; 9]) -> Answer {
         Answer(0, counts.iter().flat_map(|n| n.to_le_bytes()).collect())
     }
-    let mut contestants: Vec<Contestant> = Vec::new();
-    for &(name, count) in ways::COUNT {
-        contestants.push((name, Box::new(move || told(count(input)))));
-    }
-    race(what, input.len() as f64, &mut contestants)
+    race(
+        what,
+        input.len() as f64,
+        &mut [
+            ("proved", Box::new(|| told(proved::now::count(input)))),
+            #[cfg(feature = "before")]
+            ("before", Box::new(|| told(proved::before::count(input)))),
+            ("second", Box::new(|| told(second::count(input)))),
+            ("C", Box::new(|| told(c::count(input)))),
+        ],
+    )
 }
 
 /// A frame of so many bytes.
@@ -213,7 +234,7 @@ fn inputs(mixes: Mixes) -> Result<Vec<Row>, String> {
 /// Single frames, built and read.
 fn frames() -> Result<Vec<Row>, String> {
     let mut rows = Vec::new();
-    let build = [Target::Ratio("second", 1.0)];
+    let build = [Target::Ratio("second", 1.0), Target::Ratio("lean", 1.0)];
     let read = [Target::Ratio("second", 1.1)];
     let mut dice = Dice::new(SEED);
     for size in [5, 64, 257] {

@@ -1,6 +1,6 @@
-//! The ways to make each call, each by the name of its column.
+//! The ways to give a link bytes and ticks, each by the name of its column.
 
-use crate::{c, lean, proved, second};
+use crate::{lean, proved, second};
 
 /// How a link is made ready: a session with command 7 is asked for, or not, and then it hears bytes, each in a call of
 /// its own.
@@ -61,34 +61,4 @@ pub const TICKS: &[(&str, Ticks)] = &[
     #[cfg(feature = "before")]
     ("by value before", proved::by_value_before::ticks),
     ("second", second::ticks),
-];
-
-/// Type, Command, the parameters and the lent bytes.
-pub type Build = fn(u8, u8, &[u8], &mut [u8]) -> u64;
-/// The bytes of one whole frame.
-pub type Read = fn(&[u8]) -> u64;
-/// The input.
-pub type Count = fn(&[u8]) -> [u64; 9];
-
-pub const BUILD: &[(&str, Build)] = &[
-    ("proved", proved::now::build),
-    #[cfg(feature = "before")]
-    ("before", proved::before::build),
-    ("second", second::build),
-    ("lean", lean::build),
-];
-
-pub const READ: &[(&str, Read)] = &[
-    ("proved", proved::now::read),
-    #[cfg(feature = "before")]
-    ("before", proved::before::read),
-    ("second", second::read),
-];
-
-pub const COUNT: &[(&str, Count)] = &[
-    ("proved", proved::now::count),
-    #[cfg(feature = "before")]
-    ("before", proved::before::count),
-    ("second", second::count),
-    ("C", c::count),
 ];

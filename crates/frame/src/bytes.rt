@@ -1,4 +1,4 @@
-// The two loops over bytes that frames are made of, copying and folding; and how far a loop may go.
+// Two loops over bytes, copying and folding; and how far a loop may go. A frame is built by one loop that does both (`builder.rt`).
 ghost use mathlib.Core.Path.{_≡_};
 ghost use Prim.Native.Nat.{min};
 ghost use Rattle.frame.specs.Bytes as spec;
