@@ -1,6 +1,6 @@
 -- What `write` stores, one store behind the other, is the frame over the lent bytes, and what it folds is the checksum.
 -- Assumes nothing.
-use mathlib.Core.Path.{_≡_, refl, ap, _∙_}
+use mathlib.Core.Path.{_≡_, ap, _∙_}
 use mathlib.Core.List.{List, [], _∷_, _++_}
 use Prim.Native.Nat.{ℕ, _+_, _≤_, _<_}
 use native.Mathlib.Nat.{le-refl}
@@ -10,7 +10,7 @@ use lib.Seq.{paste, take-length}
 use lib.Bits.{bitXor}
 use Rattle.frame.specs.Bytes.{over, fold}
 use Rattle.frame.specs.Frame.{counted, checksum, frameOf}
-use Rattle.frame.proofs.Over.{over-length, put-byte, put-bytes}
+use Rattle.frame.proofs.Over.{put-byte, put-bytes}
 
 -- four stores at the front
 abbrev pub headed : List ℕ → ℕ → ℕ → ℕ → ℕ → List ℕ
@@ -35,9 +35,6 @@ module _ (d ps : List ℕ) (kind command : ℕ) (room : length ps + 5 ≤ length
       ∙ put-bytes (1 ∷ (length ps + 3) ∷ kind ∷ command ∷ []) ps d (length ps) (le-refl (length ps))
       ∙ ap (λ (l : List ℕ). over (1 ∷ (length ps + 3) ∷ kind ∷ command ∷ l) d) (take-length ps)
 
-  pub laid-over-length : {d′ : List ℕ} → d′ ≡ paste (headed d 1 (length ps + 3) kind command) 4 ps (length ps) → length d′ ≡ length d
-  laid-over-length laid = ap length (laid-over laid) ∙ over-length (1 ∷ counted kind command ps) d (omega arith)
-
   -- the checksum behind these
   pub framed-over : {d′ : List ℕ} {v : ℕ} → d′ ≡ over (1 ∷ counted kind command ps) d → v ≡ checksum (counted kind command ps)
       → set d′ (length ps + 4) v ≡ over (frameOf kind command ps) d
@@ -50,6 +47,7 @@ module _ (d ps : List ℕ) (kind command : ℕ) (room : length ps + 5 ≤ length
       ∙ ap (λ (x : ℕ). over ((1 ∷ counted kind command ps) ++ (x ∷ [])) d) s
 
 -- FF with Length, Type and Command folded in, and then the parameters, is the checksum.
-pub folded-whole : (kind command : ℕ) (ps : List ℕ) → fold (bitXor (bitXor (bitXor 255 (length ps + 3)) kind) command) ps ≡ checksum (counted kind command ps)
+pub folded-whole : (kind command : ℕ) (ps : List ℕ) {v : ℕ} → v ≡ fold (bitXor (bitXor (bitXor 255 (length ps + 3)) kind) command) ps
+    → v ≡ checksum (counted kind command ps)
 unfolding fold
-folded-whole kind command ps = refl
+folded-whole kind command ps e = e

@@ -24,6 +24,7 @@ fn lay_folding(acc: u8, src: &[u8], dst: &mut [u8], at: usize) -> u8
     ensures { λ r. ⌜ (r ≡ fold acc (now (src .entry))) × (now (dst .exit) ≡ paste (now (dst .entry)) at (now (src .entry)) (length (now (src .entry)))) ⌝ }
 {
     let mut sum = acc;
+    // It outlives its turn, so that to fold the byte of the turn before is an edit of the same shape (`checksum-one-byte-fewer`).
     let mut byte = 0;
     let mut j = 0;
     while j < src.len() {

@@ -1,13 +1,12 @@
 -- `frame::builder::write` meets its contract: the stores are the head, `lay_folding` puts the parameters behind it, and what was folded as it was
 -- written is the checksum.
 -- Assumes nothing.
-use mathlib.Core.Path.{_∙_}
 use native.Mathlib.Omega.{arith}
 use lib.ListN.{length, length-set}
 use borrow.Author.Needs.{needs}
 use denote.Ref.{now}
 use Prim.Native.Nat.{_+_, _≤_}
-use Rattle.frame.proofs.Framing.{laid-over, laid-over-length, framed-over, folded-whole}
+use Rattle.frame.proofs.Framing.{laid-over, framed-over, folded-whole}
 use Rattle.frame.proofs.builder.write.Statement.{statement}
 use Rattle.frame.proofs.builder.write.Tie as tie
 
@@ -36,16 +35,10 @@ add-lent : tie.Need-add-lent
 add-lent c = search needs
 
 slice-write-lent-5 : tie.Need-slice-write-lent-5
-slice-write-lent-5 c =
-    let laying = c .before .before in
-    let a = laying .before .before .before .before .args in
-    omega (arith, laid-over-length (now (a .lent)) (now (a .parameters)) (a .kind) (a .command) (omega arith) (laying .lay-folding .ensures .1))
+slice-write-lent-5 c = omega (arith, simp length-set at (c .before .lent .given))
 
 same-length : tie.Need-same-length
-same-length c =
-    let laying = c .before .before in
-    let a = laying .before .before .before .before .args in
-    simp length-set (laid-over-length (now (a .lent)) (now (a .parameters)) (a .kind) (a .command) (omega arith) (laying .lay-folding .ensures .1))
+same-length c = simp length-set (simp length-set at (c .before .lent .given))
 
 returns : tie.Need-returns
 returns c =
@@ -54,7 +47,7 @@ returns c =
     let room : length (now (a .parameters)) + 5 ≤ length (now (a .lent)) = omega arith in
     framed-over (now (a .lent)) (now (a .parameters)) (a .kind) (a .command) room
     (laid-over (now (a .lent)) (now (a .parameters)) (a .kind) (a .command) room (laying .lay-folding .ensures .1))
-    (laying .lay-folding .ensures .0 ∙ folded-whole (a .kind) (a .command) (now (a .parameters)))
+    (folded-whole (a .kind) (a .command) (now (a .parameters)) (laying .lay-folding .ensures .0))
 
 pub write-spec : {M : Type 1} → statement M
 write-spec =
