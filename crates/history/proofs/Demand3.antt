@@ -1,7 +1,7 @@
 -- Demand 3 over all histories, for any rules that fit, and for document 01's.
 -- Assumes nothing.
 use Prim.Native.Nat.{ℕ, _+_, _≤_}
-use mathlib.Core.Path.{_≡_, refl, subst}
+use mathlib.Core.Path.{_≡_, refl, subst, fun-ext}
 use mathlib.Core.Bool.{Bool, true, false}
 use mathlib.Core.List.{List, [], _∷_, _++_}
 use native.Mathlib.Omega.{arith}
@@ -9,7 +9,7 @@ use lib.ListN.{length, length-append}
 use lib.Seq.{take-append-seam}
 use Rattle.frame.specs.Bytes.{over}
 use Rattle.frame.specs.Frame.{frameOf, counted, checksum}
-use Rattle.rules.specs.Rules.{Rules, usual, standIn, rulesOf, backOffs}
+use Rattle.rules.specs.Rules.{Rules, usual, standIn, wireTime, rulesOf, backOffs}
 use Rattle.rules.specs.declared.Choice.{Choice}
 use Rattle.hearing.specs.Hearing.{isHunting}
 use Rattle.job.specs.Job.{start}
@@ -108,18 +108,30 @@ module _ (R : Rules) (g : ℕ → ℕ) (fit : Fits R g) where
       ((accepted-is (roomChecks line up (checksOf l (session command ps))) (openOut l (Asks command) f) o e) .gave)
       (opened l (Asks command) f (in-time R h) (frame-is 0 command ps) k)
 
--- ---- document 01's rules of sending, which the host and the stand-in share: one theorem over what was chosen
+-- ---- the rules of sending, which the host and the stand-in share: one theorem over what was chosen
 pub rules-fit : (c : Choice) → Fits (rulesOf c) backOffs
 rules-fit c = record { wait = λ size. omega arith; late = λ n. omega arith; early = λ n. omega arith }
 
-pub every-send : (c : Choice) → EverySend (rulesOf c) (λ size. sendBound)
-every-send c = send-demand3 (rulesOf c) backOffs (rules-fit c)
+-- in numbers: of four waits four times the time on the wire remains
+send-bound-is : (c : Choice) → bound (rulesOf c) backOffs Plain ≡ sendBound
+send-bound-is c = fun-ext (λ size. let e : bound (rulesOf c) backOffs Plain size ≡ sendBound size = omega arith in e)
 
-pub every-session : (c : Choice) → EverySession (rulesOf c) (λ size. sessionBound)
-every-session c = session-demand3 (rulesOf c) backOffs (rules-fit c)
+session-bound-is : (c : Choice) → bound (rulesOf c) backOffs (Asks 0) ≡ sessionBound
+session-bound-is c = fun-ext (λ size. let e : bound (rulesOf c) backOffs (Asks 0) size ≡ sessionBound size = omega arith in e)
+
+pub every-send : (c : Choice) → EverySend (rulesOf c) sendBound
+every-send c = subst (EverySend (rulesOf c)) (send-bound-is c) (send-demand3 (rulesOf c) backOffs (rules-fit c))
+
+pub every-session : (c : Choice) → EverySession (rulesOf c) sessionBound
+every-session c = subst (EverySession (rulesOf c)) (session-bound-is c) (session-demand3 (rulesOf c) backOffs (rules-fit c))
 
 pub host-demand3 : HostDemand3
 host-demand3 = (every-send usual, every-session usual)
 
 pub module-demand3 : StandInDemand3
 module-demand3 = (every-send standIn, every-session standIn)
+
+-- the bounds printed, of the shortest frame and of the longest
+pub bounds-printed : (sendBound 5 ≡ 15_705) × (sessionBound 5 ≡ 20_704) × (sendBound 257 ≡ 15_793) × (sessionBound 257 ≡ 20_792)
+unfolding wireTime
+bounds-printed = (refl, refl, refl, refl)

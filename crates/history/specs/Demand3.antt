@@ -1,12 +1,12 @@
 -- Demand 3, of one accepted send or session: f is the frame that `build` gives, bound the number of ticks.
 -- Assumes nothing.
-use Prim.Native.Nat.{ℕ, _≤_, _<_}
+use Prim.Native.Nat.{ℕ, _+_, _*_, _≤_, _<_}
 use mathlib.Core.Bool.{true}
 use mathlib.Core.Path.{_≡_}
 use mathlib.Core.List.{List}
 use lib.ListN.{length, replicate}
 use Rattle.frame.specs.Frame.{frameOf, REQ}
-use Rattle.rules.specs.Rules.{Rules, standIn, rulesOf, base}
+use Rattle.rules.specs.Rules.{Rules, standIn, wireTime, rulesOf, base}
 use Rattle.link.specs.Out.{Out}
 use Rattle.job.specs.declared.job.Asking.{Asking}
 use Rattle.job.specs.declared.job.Asking.the-variants.{Plain, Asks}
@@ -95,20 +95,20 @@ EverySession R bound =
     → perform R (after R h) (record { what = session command ps; line = line; up = up }) ≡ took o
     → Demand3 R (Asks command) (frameOf REQ command ps) (bound (length (frameOf REQ command ps))) o k
 
--- the verdict comes by the 15,701st accepted tick after acceptance
-abbrev pub sendBound : ℕ
-sendBound = 15701
+-- the verdict comes by the 15,701st accepted tick after acceptance, and four times the frame's time on the wire
+abbrev pub sendBound : ℕ → ℕ
+sendBound size = 15701 + 4 * wireTime size
 
--- a session: by the 20,700th
-abbrev pub sessionBound : ℕ
-sessionBound = 20700
+-- a session: by the 20,700th, and as much
+abbrev pub sessionBound : ℕ → ℕ
+sessionBound size = 20700 + 4 * wireTime size
 
 -- of the host, and of the stand-in
 abbrev pub HostDemand3 : Type 0
-HostDemand3 = EverySend base (λ size. sendBound) × EverySession base (λ size. sessionBound)
+HostDemand3 = EverySend base sendBound × EverySession base sessionBound
 
 abbrev pub StandInDemand3 : Type 0
-StandInDemand3 = EverySend (rulesOf standIn) (λ size. sendBound) × EverySession (rulesOf standIn) (λ size. sessionBound)
+StandInDemand3 = EverySend (rulesOf standIn) sendBound × EverySession (rulesOf standIn) sessionBound
 
 -- Demand 3 in one sentence, of a send or session that was accepted and had so many ticks, with no restart: it has its verdict, one of its own
 -- and no second; the frames put out until another is accepted are the copies that the verdict says, at most four, and after a failure exactly four.

@@ -1,2 +1,4 @@
 mod Else
+mod Entries
 pub mod Theorems
+mod Times

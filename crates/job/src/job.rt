@@ -40,7 +40,7 @@ pub enum Job {
 }
 
 impl Job {
-    // How long a copy waits for its ACK before it is lost.
+    // How long a copy waits for its ACK before it is lost, behind the time on the wire.
     pub const ACK_WAIT: Millis = Millis(1600);
     // How long a session waits for its response.
     pub const RESPONSE_WAIT: Millis = Millis(5000);

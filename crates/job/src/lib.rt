@@ -1,6 +1,7 @@
 // The job (document 01, sections 5 and 6): the open send or session, its copies and its time.
 mod job;
 mod ticks;
+mod wire;
 
 pub use job::Act;
 pub use job::Asking;

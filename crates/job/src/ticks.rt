@@ -6,28 +6,44 @@ use crate::job::goes_on;
 use crate::job::lose;
 use crate::job::put_out;
 use crate::job::start;
+use crate::wire::wire_time;
 use report::Reset;
 use report::Sending;
 use report::Session;
 use units::Millis;
 ghost use mathlib.Core.Path.{_≡_};
 ghost use Prim.Native.Nat.{_+_};
+ghost use lib.Dec.{ltb};
 ghost use Rattle.rules.specs.Rules.{base};
 ghost use Rattle.job.specs.Ticks as spec;
 
-// How long a copy of so many bytes waits for its ACK: the same time for every length.
-fn ack_wait(_size: u16) -> Millis
-    ensures { λ r. ⌜ r .0 ≡ base .wait «_size» ⌝ }
+// How long a copy of so many bytes waits for its ACK: its time on the wire, and the wait behind it.
+fn ack_wait(size: u16) -> Millis
+    ensures { λ r. ⌜ r .0 ≡ base .wait size ⌝ }
 {
-    Job::ACK_WAIT
+    let wire = wire_time(size);
+    let behind = Job::ACK_WAIT;
+    Millis(behind.0 + wire.0)
+}
+
+// Whether a copy that has waited so long still waits. Every copy waits the time behind the wire, so until then the list is not read.
+fn still_waits(size: u16, elapsed: u32) -> bool
+    ensures { λ r. ⌜ r ≡ ltb elapsed (base .wait size) ⌝ }
+{
+    let behind = Job::ACK_WAIT;
+    if elapsed < behind.0 {
+        return true;
+    }
+    let wait = ack_wait(size);
+    elapsed < wait.0
 }
 
 // A tick while waiting for the ACK.
 fn waited(size: u16, hunting: bool, asking: Asking, copies: u8, elapsed: u16) -> Act
     ensures { λ r. ⌜ r ≡ spec.waited base size hunting asking copies (elapsed + 1) ⌝ }
 {
-    let wait = ack_wait(size);
-    if (elapsed as u32) + 1 < wait.0 {
+    let waits = still_waits(size, (elapsed as u32) + 1);
+    if waits {
         return goes_on(
             Job::Waiting {
                 asking: asking,

@@ -32,7 +32,7 @@ pub struct Timings {
 impl Link {
     // How long a frame may take, from its first byte (section 4).
     pub const FRAME_TIME: Millis = Hearing::FRAME_TIME;
-    // How long a copy waits for its ACK before it is lost (section 5).
+    // How long a copy waits for its ACK before it is lost, behind the time on the wire (section 5).
     pub const ACK_WAIT: Millis = Job::ACK_WAIT;
     // How long a session waits for its response (section 6).
     pub const RESPONSE_WAIT: Millis = Job::RESPONSE_WAIT;

@@ -1,11 +1,12 @@
--- Document 01's numbers of sending, printed (section 5): the wait, and the back-offs after copies 1, 2 and 3, whatever the cause and
--- whatever was chosen; and what opening without a choice chooses.
+-- The numbers of sending, printed (section 5, and P2 of document 02): the wait, the time on the wire, and the back-offs after copies 1, 2
+-- and 3, whatever the cause and whatever was chosen; and what opening without a choice chooses.
 -- Assumes nothing.
-use Prim.Native.Nat.{ℕ}
-use mathlib.Core.Path.{_≡_, refl}
+use Prim.Native.Nat.{ℕ, _+_, _*_, _/_, _≤_, _<_, min}
+use mathlib.Core.Path.{_≡_, refl, ap}
 use mathlib.Core.Bool.{Bool}
+use native.Mathlib.Omega.{arith}
 use Rattle.refusals.proofs.Theorems.{fixed}
-use Rattle.rules.specs.Rules.{Cause, isModule, usual, rulesOf, base}
+use Rattle.rules.specs.Rules.{Cause, isModule, usual, wireTime, rulesOf, base}
 use Rattle.rules.specs.declared.Role.{Role}
 use Rattle.rules.specs.declared.Role.the-variants.{Host}
 use Rattle.rules.specs.declared.Choice.{Choice}
@@ -27,9 +28,38 @@ rules-are-of c = refl
 pub base-is-usual : base .choice ≡ usual
 base-is-usual = refl
 
--- at 1,600 the copy is lost, whatever the frame's length
-pub wait-is-1600 : (c : Choice) (size : ℕ) → rulesOf c .wait size ≡ 1_600
-wait-is-1600 c size = refl
+-- a copy of a frame of so many bytes is lost at 1,600 and its time on the wire
+pub wait-is-1600-and-wire : (c : Choice) (size : ℕ) → rulesOf c .wait size ≡ 1_600 + wireTime size
+wait-is-1600-and-wire c size = refl
+
+-- 25b/288 rounded up, said without a division, for every frame
+pub rounded-up : (b : ℕ) → b ≤ 257 → (25 * b ≤ 288 * wireTime b) × (288 * wireTime b < 25 * b + 288)
+unfolding wireTime
+rounded-up b h = (omega arith, omega arith)
+
+-- and no other number is
+pub rounded-up-alone : (b w : ℕ) → b ≤ 257 → 25 * b ≤ 288 * w → 288 * w < 25 * b + 288 → w ≡ wireTime b
+rounded-up-alone b w h low high =
+    let r = rounded-up b h in
+    omega (arith, r .0, r .1)
+
+-- 0 for no byte, 1 for 1 to 11, 2 from 12 on; 22 for 242 to 253, 23 for 254 to 257
+pub wire-times-printed : (wireTime 0 ≡ 0) × (wireTime 1 ≡ 1) × (wireTime 5 ≡ 1) × (wireTime 11 ≡ 1) × (wireTime 12 ≡ 2)
+    × (wireTime 241 ≡ 21) × (wireTime 242 ≡ 22) × (wireTime 253 ≡ 22) × (wireTime 254 ≡ 23) × (wireTime 257 ≡ 23)
+unfolding wireTime
+wire-times-printed = (refl, refl, refl, refl, refl, refl, refl, refl, refl, refl)
+
+-- a length above 257 counts as 257
+pub counts-as-257-at-most : (b : ℕ) → wireTime (min b 257) ≡ wireTime b
+unfolding wireTime
+counts-as-257-at-most b =
+    let e : min (min b 257) 257 ≡ min b 257 = omega arith in
+    ap (λ (n : ℕ). (25 * n + 287) / 288) e
+
+-- so no copy's time on the wire is more than 23
+pub wire-at-most-23 : (b : ℕ) → wireTime b ≤ 23
+unfolding wireTime
+wire-at-most-23 b = omega arith
 
 -- after copy 1, 2, 3 back off 100, 1,100, 2,100 ticks
 pub back-offs-are : (c : Choice) (cause : Cause) → (rulesOf c .back cause 1 ≡ 100) × (rulesOf c .back cause 2 ≡ 1_100) × (rulesOf c .back cause 3 ≡ 2_100)

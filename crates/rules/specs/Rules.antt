@@ -1,7 +1,7 @@
 -- What document 01 fixes and later requests vary: what a link is opened as, and the rules of sending (section 5).
 -- The definitions that depend on them take them as a parameter.
 -- Assumes nothing.
-use Prim.Native.Nat.{ℕ}
+use Prim.Native.Nat.{ℕ, _+_, _*_, _/_, min}
 use mathlib.Core.Bool.{Bool, true, false}
 use lib.Dec.{eqb}
 use Rattle.refusals.specs.Pick.{pick}
@@ -39,9 +39,14 @@ pub record Rules : Type 0 where
 abbrev pub backOffs : ℕ → ℕ
 backOffs n = pick (eqb n 1) 100 (pick (eqb n 2) 1100 2100)
 
--- document 01's rules, the host's: the same wait for every frame, the same back-offs for both causes
+-- At 115,200 bits/s and 10 bits a byte, a frame of b bytes takes 25b/288 ms, rounded up (document 02, P2).
+-- A length above 257, which no frame has, counts as 257.
+unfoldable pub wireTime : ℕ → ℕ
+wireTime b = (25 * min b 257 + 287) / 288
+
+-- document 01's rules, the host's: 1,600 ticks behind the time on the wire, the same back-offs for both causes
 abbrev pub base : Rules
-base = record { choice = usual; wait = λ size. 1600; back = λ cause n. backOffs n }
+base = record { choice = usual; wait = λ size. 1600 + wireTime size; back = λ cause n. backOffs n }
 
 -- the same rules of sending for another choice
 abbrev pub chosen : Choice → Rules → Rules

@@ -4,3 +4,4 @@ pub mod Computed
 pub mod Reach
 pub mod Machine
 pub mod StandIn
+pub mod Wire

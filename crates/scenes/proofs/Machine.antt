@@ -2,11 +2,12 @@
 -- Assumes nothing.
 use Prim.Native.Nat.{ℕ, _+_, _-_, _≤_, _<_}
 use mathlib.Core.Path.{_≡_, refl}
-use mathlib.Core.Bool.{Bool}
+use mathlib.Core.Bool.{Bool, true, false}
 use native.Mathlib.Omega.{arith}
+use lib.Dec.{ltb}
 use borrow.Author.Tests.{lt-ltb, le-ltb, eq-eqb, ne-eqb}
 use Rattle.frame.specs.Frame.{START, RES, ACK, NAK, CAN, MIN_LENGTH}
-use Rattle.rules.specs.Rules.{rulesOf}
+use Rattle.rules.specs.Rules.{wireTime, rulesOf}
 use Rattle.rules.specs.declared.Choice.{Choice}
 use Rattle.rules.specs.declared.Role.{Role}
 use Rattle.rules.specs.declared.Role.the-variants.{Host, Module}
@@ -35,8 +36,18 @@ idle-rows o size a at k f = (refl, (refl, (refl, (refl, (refl, (refl, (refl, (re
 due-rows : (o : Choice) (size : ℕ) (a b : Asking) (c n at k f : ℕ) (hunting : Bool) → AllRows o size (dueRows a b c n at k f hunting)
 due-rows o size a b c n at k f hunting = (refl, (refl, (refl, (refl, (refl, (refl, (refl, (refl, (refl, (refl, (refl, (refl, (refl, (refl, (refl, (refl, (refl, (refl, (refl, (refl, (refl, tt)))))))))))))))))))))
 
-waiting-rows : (o : Choice) (size : ℕ) (a b : Asking) (c n e at k f : ℕ) (hunting : Bool) → AllRows o size (waitingRows a b c n e at k f hunting)
-waiting-rows o size a b c n e at k f hunting = (refl, (refl, (refl, (refl, (refl, (refl, (refl, (refl, (refl, (refl, (refl, (refl, (refl, (refl, (refl, (refl, (refl, (refl, (refl, (refl, (refl, (refl, (refl, (refl, (refl, (refl, (refl, (refl, (refl, (refl, (refl, (refl, (refl, (refl, (refl, (refl, (refl, (refl, (refl, (refl, (refl, tt)))))))))))))))))))))))))))))))))))))))))
+-- the tick that makes the wait 1,600 and the time on the wire, and the one before it
+lost-then : (size : ℕ) → ltb (1_599 + wireTime size + 1) (1_600 + wireTime size) ≡ false
+lost-then size = le-ltb (1_599 + wireTime size + 1) (1_600 + wireTime size) (omega arith)
+
+waits-then : (size : ℕ) → ltb (1_598 + wireTime size + 1) (1_600 + wireTime size) ≡ true
+waits-then size = lt-ltb (1_598 + wireTime size + 1) (1_600 + wireTime size) (omega arith)
+
+counted : (size : ℕ) → 1_598 + wireTime size + 1 ≡ 1_599 + wireTime size
+counted size = omega arith
+
+waiting-rows : (o : Choice) (size : ℕ) (a b : Asking) (c n e at k f : ℕ) (hunting : Bool) → AllRows o size (waitingRows (wireTime size) a b c n e at k f hunting)
+waiting-rows o size a b c n e at k f hunting = (refl, (refl, (refl, (refl, (rw (lost-then size), (rw (lost-then size), (rw (lost-then size), (refl, (refl, (rw (lost-then size), (rw (lost-then size), (rw (lost-then size), (refl, (refl, (rw (lost-then size), (rw (lost-then size), (rw (lost-then size), (refl, (refl, (rw (lost-then size), (rw (lost-then size), (rw (lost-then size), (refl, (refl, (rw (lost-then size), (rw (lost-then size), (rw (lost-then size), (rw (waits-then size, counted size), (rw (waits-then size, counted size), (rw (waits-then size, counted size), (refl, (refl, (refl, (refl, (refl, (refl, (refl, (refl, (refl, (refl, (refl, tt)))))))))))))))))))))))))))))))))))))))))
 
 backing-off-rows : (o : Choice) (size : ℕ) (a b : Asking) (c n l at k f : ℕ) (hunting : Bool) → AllRows o size (backingOffRows a b c n l at k f hunting)
 backing-off-rows o size a b c n l at k f hunting = (refl, (refl, (refl, (refl, (refl, (refl, (refl, (refl, (refl, (refl, (refl, (refl, (refl, (refl, (refl, (refl, (refl, (refl, (refl, (refl, (refl, (refl, (refl, tt)))))))))))))))))))))))
@@ -89,8 +100,8 @@ pub copy-next : (n : ℕ) → n < 4 → nextCopy n ≡ n + 1
 copy-next n h = rw (lt-ltb n 4 h)
 
 -- "a tick up to": it counts, and does nothing else; an abort is a tick while hunting
-pub wait-counts : (o : Choice) (size : ℕ) (hunting : Bool) (a : Asking) (n e : ℕ) → e + 1 < 1_600 → onTick (rulesOf o) size hunting (Waiting a n e) ≡ still (Waiting a n (e + 1))
-wait-counts o size hunting a n e h = rw (lt-ltb (e + 1) 1_600 h)
+pub wait-counts : (o : Choice) (size : ℕ) (hunting : Bool) (a : Asking) (n e : ℕ) → e + 1 < 1_600 + wireTime size → onTick (rulesOf o) size hunting (Waiting a n e) ≡ still (Waiting a n (e + 1))
+wait-counts o size hunting a n e h = rw (lt-ltb (e + 1) (1_600 + wireTime size) h)
 
 pub back-off-counts : (o : Choice) (size : ℕ) (hunting : Bool) (a : Asking) (n l : ℕ) → 1 < l → onTick (rulesOf o) size hunting (BackingOff a n l) ≡ still (BackingOff a n (l - 1))
 back-off-counts o size hunting a n l h = rw (lt-ltb 1 l h)

@@ -8,13 +8,14 @@ use native.Mathlib.Omega.{arith}
 use native.Mathlib.Nat.{add-assoc, add-zero, zero-add}
 use native.Mathlib.Numerals.{add-one}
 use lib.Dec.{eqb}
-use lib.ListN.{length}
+use lib.ListN.{length, replicate, length-replicate}
 use lib.Seq.{take-append-seam}
 use borrow.Author.Tests.{lt-ltb, le-ltb, ne-eqb}
 use Rattle.refusals.proofs.Picks.{pick-ok}
 use Rattle.frame.specs.Bytes.{over}
-use Rattle.frame.specs.Frame.{REQ, RES, ACK, MAX_PARAMETERS, frameOf}
-use Rattle.rules.specs.Rules.{Rules, time, rulesOf}
+use Rattle.frame.specs.Frame.{REQ, RES, ACK, MAX_PARAMETERS, MAX_FRAME, frameOf}
+use Rattle.frame.proofs.Theorems.{frame-length}
+use Rattle.rules.specs.Rules.{Rules, time, wireTime, rulesOf}
 use Rattle.rules.specs.declared.Choice.{Choice}
 use Rattle.job.specs.Job.{goesOn, still, putOut, fail}
 use Rattle.job.specs.Ticks.{onTick}
@@ -263,32 +264,64 @@ module _ (R : Rules) (backs : (n : ℕ) → 0 < R .back time n) where
 rules-back : (c : Choice) (n : ℕ) → 0 < rulesOf c .back time n
 rules-back c n = pick-ok (λ (k : ℕ). 0 < k) (eqb n 1) 100 _ (omega arith) (pick-ok (λ (k : ℕ). 0 < k) (eqb n 2) 1100 2100 (omega arith) (omega arith))
 
--- ---- document 01's rules, of the host and of the stand-in
--- in numbers: the same calls for every frame
-pub longest-send-is : (c : Choice) (size : ℕ) → longestSend (rulesOf c) size ≡ (silence 1501 ++ (baseRound 99 ++ (baseRound 1099 ++ baseRound 2099))) ++ silence 1600
+-- ---- the rules of the host and of the stand-in
+-- in numbers: the calls for a frame of so many bytes
+pub longest-send-is : (c : Choice) (size : ℕ)
+    → longestSend (rulesOf c) size
+    ≡ (silence 1501 ++ (baseRound (wireTime size) 99 ++ (baseRound (wireTime size) 1099 ++ baseRound (wireTime size) 2099))) ++ silence (1600 + wireTime size)
 longest-send-is c size = refl
 
 pub longest-session-is : (c : Choice) (size : ℕ)
-    → longestSession (rulesOf c) size ≡ (silence 1501 ++ (baseRound 99 ++ (baseRound 1099 ++ baseRound 2099))) ++ (silence 1599 ++ (lent (byte ACK) ∷ silence 5000))
-longest-session-is c size = refl
+    → longestSession (rulesOf c) size
+    ≡ (silence 1501 ++ (baseRound (wireTime size) 99 ++ (baseRound (wireTime size) 1099 ++ baseRound (wireTime size) 2099)))
+    ++ (silence (1599 + wireTime size) ++ (lent (byte ACK) ∷ silence 5000))
+longest-session-is c size =
+    let e : 1600 + wireTime size - 1 ≡ 1599 + wireTime size = omega arith in
+    ap (λ (t : ℕ). toFourth (rulesOf c) size ++ (silence t ++ (lent (byte ACK) ∷ silence 5000))) e
 
--- Every send reaches its bound: failed, 4 copies, on exactly the 15,701st accepted tick.
+-- Every send reaches its bound: failed, 4 copies, on exactly that accepted tick.
 pub every-send-reaches : (c : Choice) (kind command : ℕ) (ps : List ℕ) → kind ≤ RES → length ps ≤ MAX_PARAMETERS
-    → Reaches (rulesOf c) before (send kind command ps) Plain (longestSend (rulesOf c) (length (frameOf kind command ps))) (frameOf kind command ps) (failed 4) sendBound
-every-send-reaches c kind command ps k n = send-reaches (rulesOf c) (rules-back c) kind command ps k n (omega arith)
+    → Reaches (rulesOf c) before (send kind command ps) Plain (longestSend (rulesOf c) (length (frameOf kind command ps))) (frameOf kind command ps) (failed 4)
+    (sendBound (length (frameOf kind command ps)))
+every-send-reaches c kind command ps k n =
+    let f = frameOf kind command ps in
+    subst (Reaches (rulesOf c) before (send kind command ps) Plain (longestSend (rulesOf c) (length f)) f (failed 4))
+    (let e : sendTime (rulesOf c) (length f) ≡ sendBound (length f) = omega arith in e)
+    (send-reaches (rulesOf c) (rules-back c) kind command ps k n (omega arith))
 
--- Every session reaches its bound: no response, 4 copies, on exactly the 20,700th accepted tick.
+-- Every session reaches its bound: no response, 4 copies, on exactly that accepted tick.
 pub every-session-reaches : (c : Choice) (command : ℕ) (ps : List ℕ) → length ps ≤ MAX_PARAMETERS
-    → Reaches (rulesOf c) before (sessionCall command ps) (Asks command) (longestSession (rulesOf c) (length (frameOf REQ command ps))) (frameOf REQ command ps) (noResponse 4) sessionBound
-every-session-reaches c command ps n = session-reaches (rulesOf c) (rules-back c) command ps n (omega arith)
+    → Reaches (rulesOf c) before (sessionCall command ps) (Asks command) (longestSession (rulesOf c) (length (frameOf REQ command ps))) (frameOf REQ command ps) (noResponse 4)
+    (sessionBound (length (frameOf REQ command ps)))
+every-session-reaches c command ps n =
+    let f = frameOf REQ command ps in
+    subst (Reaches (rulesOf c) before (sessionCall command ps) (Asks command) (longestSession (rulesOf c) (length f)) f (noResponse 4))
+    (let e : sessionTime (rulesOf c) (length f) ≡ sessionBound (length f) = omega arith in e)
+    (session-reaches (rulesOf c) (rules-back c) command ps n (omega arith))
 
--- So demand 3 holds with no smaller bound, of either end.
-pub send-bound-least : (c : Choice) (b : ℕ) → EverySend (rulesOf c) (λ size. b) → sendBound ≤ b
-send-bound-least c b d =
-    let r = every-send-reaches c 0 7 [] (omega arith) (omega arith) in
-    (subst (Kept Plain (frameOf 0 7 []) b) (r .verdict) ((d before (longestSend (rulesOf c) 5) 258 254 0 7 [] (r .gave) (r .accepted)) .kept)) .soon
+-- ---- So demand 3 holds with no smaller bound, of either end, for any length that a frame has.
+-- parameters for a frame of so many bytes
+abbrev zeros : ℕ → List ℕ
+zeros size = replicate (size - 5) 0
 
-pub session-bound-least : (c : Choice) (b : ℕ) → EverySession (rulesOf c) (λ size. b) → sessionBound ≤ b
-session-bound-least c b d =
-    let r = every-session-reaches c 7 [] (omega arith) in
-    (subst (Kept (Asks 7) (frameOf 0 7 []) b) (r .verdict) ((d before (longestSession (rulesOf c) 5) 258 254 7 [] (r .gave) (r .accepted)) .kept)) .soon
+zeros-few : (size : ℕ) → size ≤ MAX_FRAME → length (zeros size) ≤ MAX_PARAMETERS
+zeros-few size high = omega (arith, length-replicate {A = ℕ} (size - 5) 0)
+
+zeros-make : (size : ℕ) → 5 ≤ size → length (frameOf REQ 0x07 (zeros size)) ≡ size
+zeros-make size low = omega (arith, frame-length REQ 0x07 (zeros size), length-replicate {A = ℕ} (size - 5) 0)
+
+pub send-bound-least : (c : Choice) (b : ℕ → ℕ) → EverySend (rulesOf c) b → (size : ℕ) → 5 ≤ size → size ≤ MAX_FRAME → sendBound size ≤ b size
+send-bound-least c b d size low high =
+    let f = frameOf REQ 0x07 (zeros size) in
+    let r = every-send-reaches c REQ 0x07 (zeros size) (omega arith) (zeros-few size high) in
+    subst (λ (n : ℕ). sendBound n ≤ b n) (zeros-make size low)
+    ((subst (Kept Plain f (b (length f))) (r .verdict)
+    ((d before (longestSend (rulesOf c) (length f)) 258 254 REQ 0x07 (zeros size) (r .gave) (r .accepted)) .kept)) .soon)
+
+pub session-bound-least : (c : Choice) (b : ℕ → ℕ) → EverySession (rulesOf c) b → (size : ℕ) → 5 ≤ size → size ≤ MAX_FRAME → sessionBound size ≤ b size
+session-bound-least c b d size low high =
+    let f = frameOf REQ 0x07 (zeros size) in
+    let r = every-session-reaches c 0x07 (zeros size) (zeros-few size high) in
+    subst (λ (n : ℕ). sessionBound n ≤ b n) (zeros-make size low)
+    ((subst (Kept (Asks 0x07) f (b (length f))) (r .verdict)
+    ((d before (longestSession (rulesOf c) (length f)) 258 254 0x07 (zeros size) (r .gave) (r .accepted)) .kept)) .soon)

@@ -3,6 +3,7 @@
 use mathlib.Core.Path.{refl}
 use Rattle.frame.specs.Bytes.{fold}
 use Rattle.frame.specs.Frame.{frameOf}
+use Rattle.rules.specs.Rules.{wireTime}
 use Rattle.link.specs.Link.{noBody, noFrame}
 use Rattle.link.specs.Out.{byteOut, tickOut, openOut, restartOut}
 use Rattle.scenes.specs.Example.{Holds, AllHold}
@@ -21,11 +22,11 @@ unfolding reserved-while-waiting byteOut openOut frameOf fold noBody noFrame
 reserved-while-waiting-holds = refl
 
 lost-all-the-same-holds : Holds lost-all-the-same
-unfolding lost-all-the-same byteOut tickOut openOut frameOf fold noBody noFrame
+unfolding lost-all-the-same byteOut tickOut openOut frameOf fold noBody noFrame wireTime
 lost-all-the-same-holds = refl
 
 lost-inside-the-frame-holds : Holds lost-inside-the-frame
-unfolding lost-inside-the-frame byteOut tickOut openOut frameOf fold noBody noFrame
+unfolding lost-inside-the-frame byteOut tickOut openOut frameOf fold noBody noFrame wireTime
 lost-inside-the-frame-holds = refl
 
 session-of-its-own-holds : Holds session-of-its-own

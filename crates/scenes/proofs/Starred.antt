@@ -5,6 +5,7 @@ use mathlib.Core.Path.{_≡_, refl}
 use mathlib.Core.List.{List, [], _∷_}
 use Rattle.frame.specs.Bytes.{fold}
 use Rattle.frame.specs.Frame.{frameOf}
+use Rattle.rules.specs.Rules.{wireTime}
 use Rattle.link.specs.Link.{noBody, noFrame}
 use Rattle.link.specs.Out.{byteOut, tickOut, openOut}
 use Rattle.masks.specs.Mask.{marked}
@@ -40,15 +41,15 @@ unfolding is-kind fold
 is-kind-holds = refl
 
 ack-in-time-holds : Holds ack-in-time
-unfolding ack-in-time byteOut tickOut openOut frameOf fold noBody noFrame
+unfolding ack-in-time byteOut tickOut openOut frameOf fold noBody noFrame wireTime
 ack-in-time-holds = refl
 
 second-copy-holds : Holds second-copy
-unfolding second-copy tickOut openOut frameOf fold noBody noFrame
+unfolding second-copy tickOut openOut frameOf fold noBody noFrame wireTime
 second-copy-holds = refl
 
 silent-line-holds : Holds silent-line
-unfolding silent-line tickOut openOut frameOf fold noBody noFrame
+unfolding silent-line tickOut openOut frameOf fold noBody noFrame wireTime
 silent-line-holds = refl
 
 told-each-time-holds : Holds told-each-time

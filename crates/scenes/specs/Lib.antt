@@ -4,3 +4,4 @@ pub mod Table
 pub mod Longest
 pub mod Machine
 pub mod StandIn
+pub mod Wire

@@ -49,9 +49,9 @@ sendTime R size = fourthTime R size + R .wait size
 abbrev pub sessionTime : Rules → ℕ → ℕ
 sessionTime R size = fourthTime R size + (R .wait size - 1 + 5000)
 
--- a round in numbers: the same calls for every frame
-abbrev pub baseRound : ℕ → List Call
-baseRound quiet = silence 1600 ++ (silence quiet ++ (frameBegins ∷ silence 1501))
+-- a round in numbers, by the frame's time on the wire: but for that, the same calls for every frame
+abbrev pub baseRound : (wire quiet : ℕ) → List Call
+baseRound wire quiet = silence (1600 + wire) ++ (silence quiet ++ (frameBegins ∷ silence 1501))
 
 -- After the history `h` the call is accepted, and over the calls `k` after it the verdict comes with exactly this accepted tick;
 -- four copies of the frame and no other byte went out.

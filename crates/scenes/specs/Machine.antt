@@ -2,13 +2,13 @@
 -- `docs/machine` reads these rows, one to a line, and makes the tables and the picture of docs/ARCHITECTURE.md from them.
 -- A number is a variable where the answer does not hang on it; where a test decides, a row stands on each side of the edge.
 -- Assumes nothing.
-use Prim.Native.Nat.{ℕ}
+use Prim.Native.Nat.{ℕ, _+_}
 use mathlib.Core.Path.{_≡_}
 use mathlib.Core.Bool.{Bool, true, false}
 use mathlib.Core.List.{List, [], _∷_}
 use lib.Bits.{bitXor}
 use Rattle.refusals.specs.Pick.{pick}
-use Rattle.rules.specs.Rules.{rulesOf}
+use Rattle.rules.specs.Rules.{wireTime, rulesOf}
 use Rattle.rules.specs.declared.Choice.{Choice}
 use Rattle.rules.specs.declared.Role.{Role}
 use Rattle.rules.specs.declared.Role.the-variants.{Host, Module}
@@ -130,38 +130,39 @@ dueRows a b c n at k f hunting =
     ∷ row (Due (Asks c) n) restarts (does Idle sending.Nothing session.Abandoned reset.Nothing false)
     ∷ []
 
-abbrev pub waitingRows : (a b : Asking) (c n e at k f : ℕ) (hunting : Bool) → List JobRow
-waitingRows a b c n e at k f hunting =
+-- w is the frame's time on the wire
+abbrev pub waitingRows : (w : ℕ) (a b : Asking) (c n e at k f : ℕ) (hunting : Bool) → List JobRow
+waitingRows w a b c n e at k f hunting =
     row (Waiting Plain n e) (on (Alone Ack)) (does Idle (sending.Acknowledged n) session.Nothing reset.Nothing false)
     ∷ row (Waiting (Asks c) n e) (on (Alone Ack)) (does (Awaiting c n 0) (sending.Acknowledged n) session.Waiting reset.Nothing false)
     ∷ row (Waiting a 1 e) (on (Alone Nak)) (does (BackingOff a 1 100) (sending.BackingOff (millis 100)) session.Nothing reset.Nothing false)
     ∷ row (Waiting a 1 e) (on (Alone Can)) (does (BackingOff a 1 100) (sending.BackingOff (millis 100)) session.Nothing reset.Nothing false)
-    ∷ row (Waiting a 1 1_599) (on TickHunting) (does (BackingOff a 1 100) (sending.BackingOff (millis 100)) session.Nothing reset.Nothing false)
-    ∷ row (Waiting a 1 1_599) (on TickInside) (does (BackingOff a 1 100) (sending.BackingOff (millis 100)) session.Nothing reset.Nothing false)
-    ∷ row (Waiting a 1 1_599) (on Aborted) (does (BackingOff a 1 100) (sending.BackingOff (millis 100)) session.Nothing reset.Nothing false)
+    ∷ row (Waiting a 1 (1_599 + w)) (on TickHunting) (does (BackingOff a 1 100) (sending.BackingOff (millis 100)) session.Nothing reset.Nothing false)
+    ∷ row (Waiting a 1 (1_599 + w)) (on TickInside) (does (BackingOff a 1 100) (sending.BackingOff (millis 100)) session.Nothing reset.Nothing false)
+    ∷ row (Waiting a 1 (1_599 + w)) (on Aborted) (does (BackingOff a 1 100) (sending.BackingOff (millis 100)) session.Nothing reset.Nothing false)
     ∷ row (Waiting a 2 e) (on (Alone Nak)) (does (BackingOff a 2 1_100) (sending.BackingOff (millis 1_100)) session.Nothing reset.Nothing false)
     ∷ row (Waiting a 2 e) (on (Alone Can)) (does (BackingOff a 2 1_100) (sending.BackingOff (millis 1_100)) session.Nothing reset.Nothing false)
-    ∷ row (Waiting a 2 1_599) (on TickHunting) (does (BackingOff a 2 1_100) (sending.BackingOff (millis 1_100)) session.Nothing reset.Nothing false)
-    ∷ row (Waiting a 2 1_599) (on TickInside) (does (BackingOff a 2 1_100) (sending.BackingOff (millis 1_100)) session.Nothing reset.Nothing false)
-    ∷ row (Waiting a 2 1_599) (on Aborted) (does (BackingOff a 2 1_100) (sending.BackingOff (millis 1_100)) session.Nothing reset.Nothing false)
+    ∷ row (Waiting a 2 (1_599 + w)) (on TickHunting) (does (BackingOff a 2 1_100) (sending.BackingOff (millis 1_100)) session.Nothing reset.Nothing false)
+    ∷ row (Waiting a 2 (1_599 + w)) (on TickInside) (does (BackingOff a 2 1_100) (sending.BackingOff (millis 1_100)) session.Nothing reset.Nothing false)
+    ∷ row (Waiting a 2 (1_599 + w)) (on Aborted) (does (BackingOff a 2 1_100) (sending.BackingOff (millis 1_100)) session.Nothing reset.Nothing false)
     ∷ row (Waiting a 3 e) (on (Alone Nak)) (does (BackingOff a 3 2_100) (sending.BackingOff (millis 2_100)) session.Nothing reset.Nothing false)
     ∷ row (Waiting a 3 e) (on (Alone Can)) (does (BackingOff a 3 2_100) (sending.BackingOff (millis 2_100)) session.Nothing reset.Nothing false)
-    ∷ row (Waiting a 3 1_599) (on TickHunting) (does (BackingOff a 3 2_100) (sending.BackingOff (millis 2_100)) session.Nothing reset.Nothing false)
-    ∷ row (Waiting a 3 1_599) (on TickInside) (does (BackingOff a 3 2_100) (sending.BackingOff (millis 2_100)) session.Nothing reset.Nothing false)
-    ∷ row (Waiting a 3 1_599) (on Aborted) (does (BackingOff a 3 2_100) (sending.BackingOff (millis 2_100)) session.Nothing reset.Nothing false)
+    ∷ row (Waiting a 3 (1_599 + w)) (on TickHunting) (does (BackingOff a 3 2_100) (sending.BackingOff (millis 2_100)) session.Nothing reset.Nothing false)
+    ∷ row (Waiting a 3 (1_599 + w)) (on TickInside) (does (BackingOff a 3 2_100) (sending.BackingOff (millis 2_100)) session.Nothing reset.Nothing false)
+    ∷ row (Waiting a 3 (1_599 + w)) (on Aborted) (does (BackingOff a 3 2_100) (sending.BackingOff (millis 2_100)) session.Nothing reset.Nothing false)
     ∷ row (Waiting Plain 4 e) (on (Alone Nak)) (does Idle (sending.Failed 4) session.Nothing reset.Delivery false)
     ∷ row (Waiting Plain 4 e) (on (Alone Can)) (does Idle (sending.Failed 4) session.Nothing reset.Delivery false)
-    ∷ row (Waiting Plain 4 1_599) (on TickHunting) (does Idle (sending.Failed 4) session.Nothing reset.Delivery false)
-    ∷ row (Waiting Plain 4 1_599) (on TickInside) (does Idle (sending.Failed 4) session.Nothing reset.Delivery false)
-    ∷ row (Waiting Plain 4 1_599) (on Aborted) (does Idle (sending.Failed 4) session.Nothing reset.Delivery false)
+    ∷ row (Waiting Plain 4 (1_599 + w)) (on TickHunting) (does Idle (sending.Failed 4) session.Nothing reset.Delivery false)
+    ∷ row (Waiting Plain 4 (1_599 + w)) (on TickInside) (does Idle (sending.Failed 4) session.Nothing reset.Delivery false)
+    ∷ row (Waiting Plain 4 (1_599 + w)) (on Aborted) (does Idle (sending.Failed 4) session.Nothing reset.Delivery false)
     ∷ row (Waiting (Asks c) 4 e) (on (Alone Nak)) (does Idle (sending.Failed 4) (session.NotSent 4) reset.Delivery false)
     ∷ row (Waiting (Asks c) 4 e) (on (Alone Can)) (does Idle (sending.Failed 4) (session.NotSent 4) reset.Delivery false)
-    ∷ row (Waiting (Asks c) 4 1_599) (on TickHunting) (does Idle (sending.Failed 4) (session.NotSent 4) reset.Delivery false)
-    ∷ row (Waiting (Asks c) 4 1_599) (on TickInside) (does Idle (sending.Failed 4) (session.NotSent 4) reset.Delivery false)
-    ∷ row (Waiting (Asks c) 4 1_599) (on Aborted) (does Idle (sending.Failed 4) (session.NotSent 4) reset.Delivery false)
-    ∷ row (Waiting a n 1_598) (on TickHunting) (does (Waiting a n 1_599) sending.Nothing session.Nothing reset.Nothing false)
-    ∷ row (Waiting a n 1_598) (on TickInside) (does (Waiting a n 1_599) sending.Nothing session.Nothing reset.Nothing false)
-    ∷ row (Waiting a n 1_598) (on Aborted) (does (Waiting a n 1_599) sending.Nothing session.Nothing reset.Nothing false)
+    ∷ row (Waiting (Asks c) 4 (1_599 + w)) (on TickHunting) (does Idle (sending.Failed 4) (session.NotSent 4) reset.Delivery false)
+    ∷ row (Waiting (Asks c) 4 (1_599 + w)) (on TickInside) (does Idle (sending.Failed 4) (session.NotSent 4) reset.Delivery false)
+    ∷ row (Waiting (Asks c) 4 (1_599 + w)) (on Aborted) (does Idle (sending.Failed 4) (session.NotSent 4) reset.Delivery false)
+    ∷ row (Waiting a n (1_598 + w)) (on TickHunting) (does (Waiting a n (1_599 + w)) sending.Nothing session.Nothing reset.Nothing false)
+    ∷ row (Waiting a n (1_598 + w)) (on TickInside) (does (Waiting a n (1_599 + w)) sending.Nothing session.Nothing reset.Nothing false)
+    ∷ row (Waiting a n (1_598 + w)) (on Aborted) (does (Waiting a n (1_599 + w)) sending.Nothing session.Nothing reset.Nothing false)
     ∷ row (Waiting a n e) (on Inside) (does (Waiting a n e) sending.Nothing session.Nothing reset.Nothing false)
     ∷ row (Waiting a n e) (on (Kept at)) (does (Waiting a n e) sending.Nothing session.Nothing reset.Nothing false)
     ∷ row (Waiting a n e) (on Skipped) (does (Waiting a n e) sending.Nothing session.Nothing reset.Nothing false)
@@ -351,7 +352,7 @@ abbrev pub JobTable : (o : Choice) (size : ℕ) (a b : Asking) (c n e l at k f :
 JobTable o size a b c n e l at k f hunting =
     AllRows o size (idleRows a at k f)
     × (AllRows o size (dueRows a b c n at k f hunting)
-    × (AllRows o size (waitingRows a b c n e at k f hunting)
+    × (AllRows o size (waitingRows (wireTime size) a b c n e at k f hunting)
     × (AllRows o size (backingOffRows a b c n l at k f hunting)
     × AllRows o size (awaitingRows b c n e at k hunting))))
 

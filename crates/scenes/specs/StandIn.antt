@@ -68,25 +68,25 @@ reserved-while-waiting =
       expected = shows (copy 1 0 ∷ answers 0 reception.Reserved ACK ∷ []);
     }
 
--- The wait goes on over what is cancelled: the copy is lost on tick 1,600 all the same. In the back-off nothing is cancelled.
+-- The wait goes on over what is cancelled: the copy is lost on tick 1,601 all the same. In the back-off nothing is cancelled.
 unfoldable pub lost-all-the-same : Example
 lost-all-the-same =
     record {
-      question = playStandIn (send07 ∷ (silence 1_599 ++ (good ++ (silence 1 ++ good))));
-      expected = shows (copy 1 0 ∷ answers 1_599 reception.Cancelled CAN ∷ backsOff 100 1_600 ∷ answers 1_600 reception.Frame ACK ∷ []);
+      question = playStandIn (send07 ∷ (silence 1_600 ++ (good ++ (silence 1 ++ good))));
+      expected = shows (copy 1 0 ∷ answers 1_600 reception.Cancelled CAN ∷ backsOff 100 1_601 ∷ answers 1_601 reception.Frame ACK ∷ []);
     }
 
 -- The Checksum decides: the copy was lost inside this very frame, and its back-off ended there too. 06, and the due copy behind it.
 unfoldable pub lost-inside-the-frame : Example
 lost-inside-the-frame =
     record {
-      question = playStandIn (send07 ∷ (silence 1_000 ++ (goodBegun ++ (silence 700 ++ (given 0xFB ∷ [])))));
+      question = playStandIn (send07 ∷ (silence 1_000 ++ (goodBegun ++ (silence 701 ++ (given 0xFB ∷ [])))));
       expected =
           shows
           (copy 1 0
-          ∷ backsOff 100 1_600
-          ∷ sendingSays 1_700 sending.Due []
-          ∷ said 1_700 reception.Frame (sending.Copy 2) session.Nothing reset.Nothing (ACK ∷ frame07)
+          ∷ backsOff 100 1_601
+          ∷ sendingSays 1_701 sending.Due []
+          ∷ said 1_701 reception.Frame (sending.Copy 2) session.Nothing reset.Nothing (ACK ∷ frame07)
           ∷ []);
     }
 

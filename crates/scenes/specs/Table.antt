@@ -1,4 +1,5 @@
--- Section 10: the examples with a star, in the document's order and words. A tick's number is that of the accepted ticks so far.
+-- Section 10: the examples with a star, in the document's order and words; the times of three of them are those of document 02, P2 (5 bytes take
+-- a tick on the wire). A tick's number is that of the accepted ticks so far.
 -- Assumes nothing.
 use Prim.Native.Nat.{ℕ}
 use mathlib.Core.List.{List, [], _∷_, _++_}
@@ -41,9 +42,12 @@ good = given 0x01 ∷ given 0x03 ∷ given 0x00 ∷ given 0x07 ∷ given 0xFB �
 abbrev pub sendingSays : ℕ → Sending → List ℕ → Seen
 sendingSays t s line = said t reception.Nothing s session.Nothing reset.Nothing line
 
--- copy n goes out, whole
+-- copy n goes out, whole: of this frame, and of the frame that the scenes send
+abbrev pub copyOf : List ℕ → ℕ → ℕ → Seen
+copyOf frame n t = sendingSays t (sending.Copy n) frame
+
 abbrev pub copy : ℕ → ℕ → Seen
-copy n t = sendingSays t (sending.Copy n) frame07
+copy = copyOf frame07
 
 abbrev pub backsOff : ℕ → ℕ → Seen
 backsOff ticks t = sendingSays t (sending.BackingOff (record { 0 = ticks })) []
@@ -53,9 +57,20 @@ abbrev pub givesUp : ℕ → Seen
 givesUp t = said t reception.Nothing (sending.Failed 4) session.Nothing reset.Delivery []
 
 -- copy 1, its back-off, copy 2, its back-off, copy 3, its back-off, copy 4 and the failure, on these ticks
+abbrev pub fourCopiesOf : (frame : List ℕ) (c₁ b₁ c₂ b₂ c₃ b₃ c₄ end : ℕ) → List Seen
+fourCopiesOf frame c₁ b₁ c₂ b₂ c₃ b₃ c₄ end =
+    copyOf frame 1 c₁
+    ∷ backsOff 100 b₁
+    ∷ copyOf frame 2 c₂
+    ∷ backsOff 1_100 b₂
+    ∷ copyOf frame 3 c₃
+    ∷ backsOff 2_100 b₃
+    ∷ copyOf frame 4 c₄
+    ∷ givesUp end
+    ∷ []
+
 abbrev pub fourCopies : (c₁ b₁ c₂ b₂ c₃ b₃ c₄ end : ℕ) → List Seen
-fourCopies c₁ b₁ c₂ b₂ c₃ b₃ c₄ end =
-    copy 1 c₁ ∷ backsOff 100 b₁ ∷ copy 2 c₂ ∷ backsOff 1_100 b₂ ∷ copy 3 c₃ ∷ backsOff 2_100 b₃ ∷ copy 4 c₄ ∷ givesUp end ∷ []
+fourCopies = fourCopiesOf frame07
 
 -- before any tick reception says this and puts out one byte
 abbrev pub receptionSays : Reception → Reset → ℕ → Seen
@@ -97,28 +112,28 @@ is-short = record { question = read (0x01 ∷ 0x03 ∷ 0x00 ∷ 0x07 ∷ []); ex
 unfoldable pub is-kind : Example
 is-kind = record { question = read (0x01 ∷ 0x03 ∷ 0x02 ∷ 0x07 ∷ 0xF9 ∷ []); expected = reading (Refused refusal.Kind) }
 
--- 06 after 1,599 ticks: acknowledged, 1 copy.
+-- 06 after 1,600 ticks: acknowledged, 1 copy.
 unfoldable pub ack-in-time : Example
 ack-in-time =
     record {
-      question = play (send07 ∷ (silence 1_599 ++ (given 0x06 ∷ [])));
-      expected = shows (copy 1 0 ∷ sendingSays 1_599 (sending.Acknowledged 1) [] ∷ []);
+      question = play (send07 ∷ (silence 1_600 ++ (given 0x06 ∷ [])));
+      expected = shows (copy 1 0 ∷ sendingSays 1_600 (sending.Acknowledged 1) [] ∷ []);
     }
 
--- Copy 2 of a silent line goes out on tick 1,700.
+-- Copy 2 of a silent line goes out on tick 1,701.
 unfoldable pub second-copy : Example
 second-copy =
     record {
-      question = play (send07 ∷ silence 1_700);
-      expected = shows (copy 1 0 ∷ backsOff 100 1_600 ∷ copy 2 1_700 ∷ []);
+      question = play (send07 ∷ silence 1_701);
+      expected = shows (copy 1 0 ∷ backsOff 100 1_601 ∷ copy 2 1_701 ∷ []);
     }
 
--- Silence: copies at ticks 0, 1,700, 4,400, 8,100, failed at 9,700.
+-- Silence: copies at ticks 0, 1,701, 4,402, 8,103, failed at 9,704.
 unfoldable pub silent-line : Example
 silent-line =
     record {
-      question = play (send07 ∷ silence 9_700);
-      expected = shows (fourCopies 0 1_600 1_700 3_300 4_400 6_000 8_100 9_700);
+      question = play (send07 ∷ silence 9_704);
+      expected = shows (fourCopies 0 1_601 1_701 3_302 4_402 6_003 8_103 9_704);
     }
 
 -- 15 straight after every copy: copies at 0, 100, 1,200, 3,300, failed at 3,300.
