@@ -8,7 +8,7 @@ use native.Mathlib.Omega.{arith}
 use lib.Dec.{eqb, eqb→eq}
 use lib.ListN.{replicate, getD}
 use Rattle.rules.specs.Rules.{wireTime}
-use Rattle.rules.proofs.Theorems.{counts-as-257-at-most, wire-at-most-23}
+use Rattle.rules.proofs.Theorems.{counts-as-257-at-most}
 use Rattle.job.proofs.Entries.{at}
 
 -- the times of the lengths from 0 on: so many lengths take 0 ticks, so many 1, and so on
@@ -31,7 +31,3 @@ time-at b h = eqb→eq (getD times b 0) (wireTime b) (at right times tt b (omega
 -- and a length above 257 counts as 257
 pub time-of : (place size : ℕ) → place ≡ min size 257 → getD times place 0 ≡ wireTime size
 time-of place size e = time-at place (omega arith) ∙ ap wireTime e ∙ counts-as-257-at-most size
-
--- so every entry fits a byte
-pub time-fits : (place size : ℕ) → place ≡ min size 257 → getD times place 0 ≤ 23
-time-fits place size e = omega (arith, time-of place size e, wire-at-most-23 size)

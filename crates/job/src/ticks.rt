@@ -23,7 +23,7 @@ fn ack_wait(size: u16) -> Millis
 {
     let wire = wire_time(size);
     let behind = Job::ACK_WAIT;
-    Millis(behind.0 + wire.0)
+    Millis(behind.0 + (wire as u32))
 }
 
 // Whether a copy that has waited so long still waits. Every copy waits the time behind the wire, so until then the list is not read.

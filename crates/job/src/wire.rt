@@ -1,6 +1,5 @@
 // The time that a frame's bytes take on the wire (document 02, P2).
 use crate::job::Job;
-use units::Millis;
 ghost use mathlib.Core.Path.{_≡_};
 ghost use Prim.Native.Nat.{min};
 ghost use Rattle.rules.specs.Rules.{wireTime};
@@ -279,11 +278,10 @@ fn place_of(size: u16) -> usize
     size as usize
 }
 
-// The time of a frame of so many bytes on the wire.
-pub(crate) fn wire_time(size: u16) -> Millis
-    ensures { λ r. ⌜ r .0 ≡ wireTime size ⌝ }
+// The time of a frame of so many bytes on the wire, in milliseconds.
+pub(crate) fn wire_time(size: u16) -> u8
+    ensures { λ r. ⌜ r ≡ wireTime size ⌝ }
 {
     let place = place_of(size);
-    let time = Job::WIRE_TIMES[place];
-    Millis(time as u32)
+    Job::WIRE_TIMES[place]
 }
