@@ -24,7 +24,8 @@ pub struct Link {
 impl Link {
     /// A frame may last 1,500 ticks; the next aborts it (section 4).
     pub const FRAME_TICKS: u16 = 1_500;
-    /// A copy not acknowledged after as many ticks is lost (section 5).
+    /// A copy not acknowledged as many ticks behind its time on the wire is
+    /// lost (section 5, request P2).
     pub const ACK_TICKS: u16 = 1_600;
     /// Back-offs after copies 1, 2 and 3 (section 5).
     pub const BACK_OFF_TICKS: [u16; 3] = [100, 1_100, 2_100];
@@ -157,6 +158,11 @@ impl Link {
     /// The sender's state.
     pub fn sender_state(&self) -> State {
         self.sender.state()
+    }
+
+    /// Ticks after which a copy of the open send, or of the last one, is lost.
+    pub fn ack_ticks(&self) -> u16 {
+        self.sender.ack_ticks()
     }
 
     /// The session's state.

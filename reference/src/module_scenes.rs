@@ -1,12 +1,13 @@
 //! The scenes of the random scripts for a stand-in (request P5): alone, at the
 //! edges of its one rule, and with the host at the other end of `pass`.
 
+use crate::choice::Role;
 use crate::ends::Direction;
 use crate::frame::{REQ, RES, START};
 use crate::link::Link;
 use crate::scenes::*;
 use crate::scribe::{whole, Scribe};
-use crate::sending::State;
+use crate::sending::{wire_ticks, State};
 
 /// Lines with `module` or `pass`; most are malformed, a few only look so.
 #[rustfmt::skip]
@@ -99,7 +100,7 @@ pub fn checksum_at_edge(scribe: &mut Scribe) {
         let State::Waiting(waited) = scribe.link().sender_state() else {
             return;
         };
-        let left = u32::from(Link::ACK_TICKS - waited);
+        let left = scribe.wait() - u32::from(waited);
         let before = scribe.dice.one(&[0, 1, 2, 700, 1_499]).min(left);
         scribe.ticks(left - before);
         let frame = right_frame(scribe);
@@ -120,7 +121,7 @@ pub fn lost_inside(scribe: &mut Scribe) {
         let State::Waiting(waited) = scribe.link().sender_state() else {
             return;
         };
-        let left = u32::from(Link::ACK_TICKS - waited);
+        let left = scribe.wait() - u32::from(waited);
         let before = scribe.dice.one(&[1, 2, 300]).min(left);
         scribe.ticks(left - before);
         let frame = right_frame(scribe);
@@ -241,7 +242,8 @@ pub fn conversation(scribe: &mut Scribe) {
     let (command, parameters) = (scribe.command(), scribe.parameters());
     let answer = scribe.parameters();
     let module_asks = scribe.dice.once_in(3);
-    let ticks = scribe.dice.one(&[0, 1, 12, 1_599, 4_999, 5_000]);
+    let wait = u32::from(Link::ACK_TICKS + wire_ticks(parameters.len() + 5));
+    let ticks = scribe.dice.one(&[0, 1, 12, wait - 1, 4_999, 5_000]);
     if module_asks {
         scribe.on_stand_in(|scribe| scribe.session(command, &parameters));
     } else {
@@ -271,9 +273,16 @@ pub fn both_at_once(scribe: &mut Scribe) {
     scribe.on_stand_in(|scribe| scribe.open_some());
     for _ in 0..scribe.dice.between(2, 6) {
         scribe.pass();
-        let ticks = scribe.dice.one(&[0, 0, 1, 99, 100, 101, 1_100, 1_600]);
+        let wait = longer_wait(scribe);
+        let ticks = scribe.dice.one(&[0, 0, 1, 99, 100, 101, 1_100, wait]);
         both_ticks(scribe, ticks);
     }
+}
+
+/// The wait of the end whose copies wait longer: both copies are lost by then.
+fn longer_wait(scribe: &Scribe) -> u32 {
+    let wait = |role| u32::from(scribe.ends().of(role).link().ack_ticks());
+    wait(Role::Host).max(wait(Role::Module))
 }
 
 /// Fills a direction, or both, to the edge of what is kept and beyond.

@@ -46,7 +46,7 @@ pub const KINDS: &[Kind] = &[
     },
     Kind {
         name: "answers",
-        seeks: "single bytes at 1,599 and 1,600 ticks after a copy and around a back-off",
+        seeks: "single bytes on the last tick of a copy's wait, on the next, and around a back-off",
         scenes: &[
             (6, answer_at_edge),
             (1, answers_at_once),

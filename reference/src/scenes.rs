@@ -44,7 +44,8 @@ pub fn single(scribe: &mut Scribe) {
 }
 
 pub fn restart(scribe: &mut Scribe) {
-    let ticks = scribe.dice.one(&[0, 1, 99, 100, 1_500, 1_600]);
+    let wait = scribe.wait();
+    let ticks = scribe.dice.one(&[0, 1, 99, 100, 1_500, wait]);
     if scribe.dice.once_in(2) {
         scribe.ticks(ticks);
     }
@@ -201,7 +202,7 @@ pub fn coincide(scribe: &mut Scribe) {
     }
     let mut ends: Vec<u32> = scribe.sender_left().into_iter().collect();
     if let State::Waiting(ticks) = scribe.link().sender_state() {
-        let loss = u32::from(Link::ACK_TICKS - ticks);
+        let loss = scribe.wait() - u32::from(ticks);
         ends.extend([100, 1_100, 2_100].map(|back_off| loss + back_off));
     }
     ends.extend(scribe.session_left());
@@ -459,10 +460,20 @@ fn settle(scribe: &mut Scribe) {
     }
 }
 
-/// A line that stays silent for long.
+/// A line that stays silent for long: to copy 2, 3 or 4 of the open frame, or
+/// to its failure.
 pub fn silence(scribe: &mut Scribe) {
     scribe.open_some();
-    let ticks = scribe.dice.one(&[1_700, 4_400, 8_100, 9_699, 9_700, 9_701]);
+    let wait = scribe.wait();
+    let failed = 4 * wait + 3_300;
+    let ticks = scribe.dice.one(&[
+        wait + 100,
+        2 * wait + 1_200,
+        3 * wait + 3_300,
+        failed - 1,
+        failed,
+        failed + 1,
+    ]);
     scribe.ticks(ticks);
     if scribe.dice.once_in(2) {
         session_awaiting(scribe);

@@ -239,10 +239,16 @@ impl Scribe {
     /// Ticks to the loss of the copy or the end of the back-off.
     pub fn sender_left(&self) -> Option<u32> {
         match self.link().sender_state() {
-            State::Waiting(ticks) => Some(u32::from(Link::ACK_TICKS - ticks)),
+            State::Waiting(ticks) => Some(u32::from(self.link().ack_ticks() - ticks)),
             State::BackingOff(left) => Some(u32::from(left)),
             State::Quiet | State::Due => None,
         }
+    }
+
+    /// Ticks that a copy of the open send, or of the last one, waits for its
+    /// ACK.
+    pub fn wait(&self) -> u32 {
+        u32::from(self.link().ack_ticks())
     }
 
     /// Ticks to the end of a session that awaits its response.

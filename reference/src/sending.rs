@@ -1,4 +1,5 @@
-//! Section 5: sending one frame in up to four copies.
+//! Section 5: sending one frame in up to four copies; with the time that a
+//! copy takes on the wire, as request P2 has it.
 
 use crate::frame::{build, MOST_FRAME};
 use crate::link::Link;
@@ -16,6 +17,13 @@ pub enum State {
     Waiting(u16),
     /// Ticks still to go.
     BackingOff(u16),
+}
+
+/// Ticks that a frame of so many bytes takes on the wire, begun ones counted
+/// whole. 115,200 bits a second at 10 bits a byte make 11,520 bytes a second,
+/// so a byte takes 1,000/11,520 = 25/288 of a tick.
+pub fn wire_ticks(size: usize) -> u16 {
+    (25 * size).div_ceil(288) as u16
 }
 
 /// The sending half of the link, with the frame being sent.
@@ -48,6 +56,12 @@ impl Sender {
 
     pub fn quiet(&self) -> bool {
         self.state == State::Quiet
+    }
+
+    /// Ticks after which a copy of the open send, or of the last one, is lost.
+    /// They go by the frame alone, whatever is put out before the copy.
+    pub fn ack_ticks(&self) -> u16 {
+        Link::ACK_TICKS + wire_ticks(self.size)
     }
 
     /// Takes a frame to send, which is then due. KIND and LONG are `build`'s;
@@ -88,7 +102,7 @@ impl Sender {
             State::Quiet => (SendingPart::Nothing, 0),
             State::Due if hunting => self.put_out(line),
             State::Due => (SendingPart::Nothing, 0),
-            State::Waiting(ticks) if ticks + 1 == Link::ACK_TICKS => (self.not_delivered(), 0),
+            State::Waiting(ticks) if ticks + 1 == self.ack_ticks() => (self.not_delivered(), 0),
             State::Waiting(ticks) => self.stay(State::Waiting(ticks + 1)),
             State::BackingOff(left) if left > 1 => self.stay(State::BackingOff(left - 1)),
             State::BackingOff(_) if hunting => self.put_out(line),

@@ -127,7 +127,7 @@ fn an_abort_a_send_and_its_failure_leave_the_run_of_bad_sums() {
     bench.byte(1);
     assert_eq!(bench.ticks(1_501).len(), 1);
     bench.send(0, 7, &[]).unwrap();
-    bench.ticks(9_700);
+    bench.ticks(9_704);
     let third = says(rx("badsum"), tx("sums"), &[0x15], &[]);
     assert_eq!(bench.bytes(&BAD_07), third);
 }
@@ -182,7 +182,7 @@ fn every_end_of_a_frame_puts_out_a_due_copy() {
         let said = bench.bytes(bytes);
         assert_eq!(said, says(rx(word), tx("copy:1"), &line, up));
         // Its wait began at 0 with that call.
-        bench.quiet_ticks(1_599);
+        bench.quiet_ticks(1_600);
         assert_eq!(bench.byte(6), says(rx("nothing"), tx("acked:1"), &[], &[]));
     }
 }
@@ -207,7 +207,7 @@ fn a_due_copy_put_out_by_an_abort_has_its_wait_at_0() {
     bench.send(0, 7, &[]).unwrap();
     bench.quiet_ticks(1_500);
     assert_eq!(bench.tick(), says(rx("abort"), tx("copy:1"), &REQ_07, &[]));
-    bench.quiet_ticks(1_599);
+    bench.quiet_ticks(1_600);
     assert_eq!(
         bench.tick(),
         says(rx("nothing"), tx("backoff:100"), &[], &[])
@@ -277,8 +277,9 @@ fn an_abort_on_the_tick_that_ends_a_back_off() {
 
 #[test]
 fn an_abort_on_the_tick_of_a_loss() {
+    // The frame begins 1,501 ticks before the loss at 1,601.
     let mut bench = waiting();
-    bench.quiet_ticks(99);
+    bench.quiet_ticks(100);
     bench.byte(1);
     bench.quiet_ticks(1_500);
     assert_eq!(bench.tick(), says(rx("abort"), tx("backoff:100"), &[], &[]));
@@ -293,13 +294,13 @@ fn an_abort_on_the_tick_of_a_loss() {
 fn an_abort_on_the_tick_of_a_failure() {
     let mut bench = Bench::new();
     bench.session(7, &[]).unwrap();
-    bench.ticks(8_100);
-    bench.quiet_ticks(99);
+    bench.ticks(8_103);
+    bench.quiet_ticks(100);
     bench.byte(1);
     bench.quiet_ticks(1_500);
     let expected = says(rx("abort"), tx("failed:4 notsent:4 delivery"), &[], &[]);
     assert_eq!(bench.tick(), expected);
-    assert_eq!(bench.ticks, 9_700);
+    assert_eq!(bench.ticks, 9_704);
 }
 
 #[test]
@@ -317,7 +318,7 @@ fn an_abort_on_the_tick_that_ends_a_session() {
 #[test]
 fn a_loss_inside_a_frame_and_an_answer_behind_it() {
     let mut bench = waiting();
-    bench.quiet_ticks(1_599);
+    bench.quiet_ticks(1_600);
     bench.byte(1);
     assert_eq!(
         bench.tick(),
@@ -340,7 +341,7 @@ fn a_frame_received_while_a_copy_waits_changes_nothing_for_it() {
         bench.bytes(&REQ_07),
         says(rx("frame"), tx(""), &[6], &[0, 7])
     );
-    bench.quiet_ticks(799);
+    bench.quiet_ticks(800);
     assert_eq!(bench.byte(6), says(rx("nothing"), tx("acked:1"), &[], &[]));
 }
 
@@ -361,7 +362,7 @@ fn copies_are_counted_in_every_acknowledgement() {
 }
 
 /// Copies at the times that arithmetic gives for any answers: after copy k,
-/// refused after d ticks (1,600 if not), copy k + 1 comes d + back-off later.
+/// refused after d ticks (1,601 if not), copy k + 1 comes d + back-off later.
 #[test]
 fn copies_come_when_arithmetic_says() {
     let mut dice = reference::dice::Dice::new(5);
@@ -369,14 +370,14 @@ fn copies_come_when_arithmetic_says() {
         let mut bench = waiting();
         let mut at = 0;
         for (number, back_off) in [100, 1_100, 2_100].into_iter().enumerate() {
-            let edge = dice.one(&[0, 1, 1_598, 1_599, 1_600]);
-            let any = dice.between(0, 1_600);
+            let edge = dice.one(&[0, 1, 1_599, 1_600, 1_601]);
+            let any = dice.between(0, 1_601);
             let refused = dice.one(&[edge, any]);
-            if refused < 1_600 {
+            if refused < 1_601 {
                 bench.quiet_ticks(refused);
                 bench.byte(dice.one(&[0x15, 0x18]));
             } else {
-                assert_eq!(bench.ticks(1_600).len(), 1);
+                assert_eq!(bench.ticks(1_601).len(), 1);
             }
             bench.quiet_ticks(back_off - 1);
             let words = format!("copy:{}", number + 2);
@@ -497,9 +498,9 @@ fn a_response_while_a_plain_send_is_open_is_stray() {
 fn a_session_that_is_not_sent() {
     let mut bench = Bench::new();
     bench.session(7, &[]).unwrap();
-    let said = bench.ticks(9_700).pop().unwrap();
+    let said = bench.ticks(9_704).pop().unwrap();
     let expected = says(rx("nothing"), tx("failed:4 notsent:4 delivery"), &[], &[]);
-    assert_eq!(said, (9_700, expected));
+    assert_eq!(said, (9_704, expected));
     assert!(bench.session(7, &[]).is_ok());
 }
 

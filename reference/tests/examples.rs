@@ -63,18 +63,18 @@ fn tick_1501_aborts() {
 }
 
 #[test]
-fn ack_after_1599_ticks() {
+fn ack_after_1600_ticks() {
     let mut bench = Bench::new();
     bench.send(0, 7, &[]).unwrap();
-    bench.quiet_ticks(1_599);
+    bench.quiet_ticks(1_600);
     assert_eq!(bench.byte(6), says(rx("nothing"), tx("acked:1"), &[], &[]));
 }
 
 #[test]
-fn ack_after_1600_ticks_is_stray() {
+fn ack_after_1601_ticks_is_stray() {
     let mut bench = Bench::new();
     bench.send(0, 7, &[]).unwrap();
-    bench.quiet_ticks(1_599);
+    bench.quiet_ticks(1_600);
     assert_eq!(
         bench.tick(),
         says(rx("nothing"), tx("backoff:100"), &[], &[])
@@ -85,7 +85,7 @@ fn ack_after_1600_ticks_is_stray() {
         bench.tick(),
         says(rx("nothing"), tx("copy:2"), &REQ_07, &[])
     );
-    assert_eq!(bench.ticks, 1_700);
+    assert_eq!(bench.ticks, 1_701);
 }
 
 #[test]
@@ -97,13 +97,13 @@ fn silence() {
     assert_eq!(
         bench.ticks(20_000),
         vec![
-            (1_600, says(nothing, tx("backoff:100"), &[], &[])),
-            (1_700, says(nothing, tx("copy:2"), &REQ_07, &[])),
-            (3_300, says(nothing, tx("backoff:1100"), &[], &[])),
-            (4_400, says(nothing, tx("copy:3"), &REQ_07, &[])),
-            (6_000, says(nothing, tx("backoff:2100"), &[], &[])),
-            (8_100, says(nothing, tx("copy:4"), &REQ_07, &[])),
-            (9_700, says(nothing, tx("failed:4 delivery"), &[], &[])),
+            (1_601, says(nothing, tx("backoff:100"), &[], &[])),
+            (1_701, says(nothing, tx("copy:2"), &REQ_07, &[])),
+            (3_302, says(nothing, tx("backoff:1100"), &[], &[])),
+            (4_402, says(nothing, tx("copy:3"), &REQ_07, &[])),
+            (6_003, says(nothing, tx("backoff:2100"), &[], &[])),
+            (8_103, says(nothing, tx("copy:4"), &REQ_07, &[])),
+            (9_704, says(nothing, tx("failed:4 delivery"), &[], &[])),
         ]
     );
 }

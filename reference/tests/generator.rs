@@ -3,7 +3,7 @@
 
 mod common;
 
-use common::{called, played};
+use common::{called, played, wire};
 use reference::choice::{Choice, Role};
 use reference::dice::Dice;
 use reference::link::Link;
@@ -276,34 +276,69 @@ fn bodies_are_taken_and_refused_for_every_cause() {
     }
 }
 
-/// Ticks since the last copy at which each answer to it came.
-#[test]
-fn answers_come_at_1599_and_after_1600() {
-    let mut copy_at = 0;
-    let mut acked = HashSet::new();
-    let mut refused = HashSet::new();
-    for line in lines_of("answers") {
-        let at: u64 = line
-            .split("at=")
-            .nth(1)
-            .unwrap()
-            .split(' ')
-            .next()
-            .unwrap()
-            .parse()
-            .unwrap();
-        if line.contains("tx=copy:") {
-            copy_at = at;
-        } else if line.contains("tx=acked:") {
-            acked.insert(at - copy_at);
-        } else if line.contains("tx=backoff:") {
-            refused.insert(at - copy_at);
+/// A copy that an end put out last: on which tick, its number and its size.
+#[derive(Clone, Copy, Default)]
+struct Sent {
+    at: i64,
+    number: u32,
+    size: usize,
+}
+
+/// A part of a line.
+fn part<'a>(line: &'a str, name: &str) -> Option<&'a str> {
+    line.split(' ').find_map(|word| word.strip_prefix(name))
+}
+
+/// The copy that a line tells of.
+fn sent(line: &str, at: i64) -> Option<Sent> {
+    let number = part(line, "tx=copy:")?.parse().unwrap();
+    let out = part(line, "line=").unwrap();
+    let behind = !out.starts_with("01");
+    Some(Sent {
+        at,
+        number,
+        size: out.len() / 2 - usize::from(behind),
+    })
+}
+
+/// Shows each line that tells of a report, with the last copy of its end and
+/// how late it is: 0 on the tick that makes the copy's wait 1,600 and its time
+/// on the wire, -1 on the tick before.
+fn each_wait(lines: &[String], mut look: impl FnMut(&str, bool, Sent, i64)) {
+    let mut copies = [Sent::default(); 2];
+    for line in lines {
+        let (Some(at), Some(_)) = (part(line, "at="), part(line, "tx=")) else {
+            continue;
+        };
+        let at = at.parse().unwrap();
+        let module = line.starts_with("module ");
+        let copy = &mut copies[usize::from(module)];
+        if copy.number > 0 {
+            let wait = 1_600 + i64::from(wire(copy.size));
+            look(line, module, *copy, at - copy.at - wait);
+        }
+        if let Some(sent) = sent(line, at) {
+            *copy = sent;
         }
     }
-    assert!(acked.contains(&1_598) && acked.contains(&1_599));
-    assert!(refused.contains(&1_599) && refused.contains(&1_600));
-    assert!(acked.iter().chain(&refused).all(|&ticks| ticks <= 1_600));
-    assert!(!acked.contains(&1_600));
+}
+
+/// How late answers to copies came.
+#[test]
+fn answers_come_on_the_last_tick_of_a_wait_and_on_the_next() {
+    let mut acked = HashSet::new();
+    let mut refused = HashSet::new();
+    each_wait(&lines_of("answers"), |line, _, _, late| {
+        if line.contains("tx=acked:") {
+            acked.insert(late);
+        } else if line.contains("tx=backoff:") {
+            refused.insert(late);
+        }
+    });
+    assert!(acked.contains(&-2) && acked.contains(&-1));
+    assert!(refused.contains(&-1) && refused.contains(&0));
+    assert!(acked.iter().chain(&refused).all(|&late| late <= 0));
+    assert!(!acked.contains(&0));
 }
 
 #[test]
@@ -357,36 +392,41 @@ fn a_stand_in_meets_every_end_in_every_state() {
         .any(|line| !line.starts_with("module") && line.contains("rx=cancelled")));
 }
 
-/// Ticks since the stand-in's last copy at which a frame was cancelled, and at
-/// which one was handed up because the copy had been lost on that tick.
+/// How late a frame came that a stand-in cancelled, and one that was handed up
+/// because the copy had been lost.
 #[test]
-fn checksums_come_at_1599_and_at_1600() {
-    let (mut copy_at, mut lost_at) = (0, 0);
+fn checksums_come_on_the_last_tick_of_a_wait_and_on_the_next() {
+    let mut lost = false;
     let (mut cancelled, mut taken) = (HashSet::new(), HashSet::new());
-    for line in lines_of("module") {
-        let Some(at) = line
-            .strip_prefix("module ")
-            .and_then(|call| call.split("at=").nth(1))
-        else {
-            continue;
-        };
-        let at: u64 = at.split(' ').next().unwrap().parse().unwrap();
+    each_wait(&lines_of("module"), |line, module, _, late| {
+        if !module {
+            return;
+        }
         if line.contains("rx=cancelled") {
-            cancelled.insert(at - copy_at);
-        } else if line.contains("line=06") && !line.contains("up=-") && lost_at > copy_at {
-            taken.insert(at - copy_at);
+            cancelled.insert(late);
+        } else if line.contains("line=06") && !line.contains("up=-") && lost {
+            taken.insert(late);
         }
         if line.contains("tx=copy:") {
-            copy_at = at;
+            lost = false;
         } else if line.contains("tx=backoff:") {
-            lost_at = at;
+            lost = true;
         }
-    }
-    for ticks in [0, 1_598, 1_599] {
-        assert!(cancelled.contains(&ticks), "{ticks}");
-    }
-    assert!(cancelled.iter().all(|&ticks| ticks < 1_600));
-    assert!(taken.contains(&1_600) && taken.contains(&1_601));
+    });
+    assert!(cancelled.contains(&-2) && cancelled.contains(&-1));
+    assert!(cancelled.iter().all(|&late| late < 0));
+    assert!(taken.contains(&0) && taken.contains(&1));
+}
+
+/// And on the tick of the copy itself.
+#[test]
+fn checksums_come_straight_after_a_copy() {
+    let mut found = 0;
+    each_wait(&lines_of("module"), |line, _, copy, late| {
+        let at_once = late == -1_600 - i64::from(wire(copy.size));
+        found += u32::from(at_once && line.contains("rx=cancelled"));
+    });
+    assert!(found >= 3, "{found}");
 }
 
 #[test]

@@ -8,10 +8,10 @@ use reference::play::Lent;
 #[test]
 fn a_send_from_its_copy_to_its_acknowledgement() {
     plays(
-        "send 00 07\nticks 1599\nbyte 06\n",
+        "send 00 07\nticks 1600\nbyte 06\n",
         &[
             "send at=0 rx=nothing tx=copy:1 session=nothing reset=none line=01030007FB up=-",
-            "byte at=1599 rx=nothing tx=acked:1 session=nothing reset=none line=- up=-",
+            "byte at=1600 rx=nothing tx=acked:1 session=nothing reset=none line=- up=-",
         ],
     );
 }
@@ -38,33 +38,33 @@ fn every_word_of_the_four_parts() {
 #[test]
 fn ends_restarts_and_the_count_of_ticks() {
     plays(
-        "session 07\nticks 9700\nsession 07\nbyte 06\nticks 5000\nsession 07\nrestart\n\
+        "session 07\nticks 9704\nsession 07\nbyte 06\nticks 5000\nsession 07\nrestart\n\
          send 01 07\nrestart\nbyte 01\nsend 00 07\nticks 1501\nrestart\nrestart\n\
          bytes 01 03 00 07 00\nbytes 01 03 00 07 00\nbytes 01 03 00 07 00\n",
         &[
             "session at=0 rx=nothing tx=copy:1 session=nothing reset=none line=01030007FB up=-",
-            "tick at=1600 rx=nothing tx=backoff:100 session=nothing reset=none line=- up=-",
-            "tick at=1700 rx=nothing tx=copy:2 session=nothing reset=none line=01030007FB up=-",
-            "tick at=3300 rx=nothing tx=backoff:1100 session=nothing reset=none line=- up=-",
-            "tick at=4400 rx=nothing tx=copy:3 session=nothing reset=none line=01030007FB up=-",
-            "tick at=6000 rx=nothing tx=backoff:2100 session=nothing reset=none line=- up=-",
-            "tick at=8100 rx=nothing tx=copy:4 session=nothing reset=none line=01030007FB up=-",
-            "tick at=9700 rx=nothing tx=failed:4 session=notsent:4 reset=delivery line=- up=-",
-            "session at=9700 rx=nothing tx=copy:1 session=nothing reset=none line=01030007FB up=-",
-            "byte at=9700 rx=nothing tx=acked:1 session=waiting reset=none line=- up=-",
-            "tick at=14700 rx=nothing tx=nothing session=noresponse:1 reset=none line=- up=-",
-            "session at=14700 rx=nothing tx=copy:1 session=nothing reset=none line=01030007FB up=-",
-            "restart at=14700 rx=nothing tx=nothing session=abandoned reset=none line=15 up=-",
-            "send at=14700 rx=nothing tx=copy:1 session=nothing reset=none line=01030107FA up=-",
-            "restart at=14700 rx=nothing tx=abandoned session=nothing reset=none line=15 up=-",
-            "byte at=14700 rx=nothing tx=nothing session=nothing reset=none line=- up=-",
-            "send at=14700 rx=nothing tx=due session=nothing reset=none line=- up=-",
-            "tick at=16201 rx=abort tx=copy:1 session=nothing reset=none line=01030007FB up=-",
-            "restart at=16201 rx=nothing tx=abandoned session=nothing reset=none line=15 up=-",
-            "restart at=16201 rx=nothing tx=nothing session=nothing reset=none line=15 up=-",
-            "bytes at=16201 taken=5 rx=badsum tx=nothing session=nothing reset=none line=15 up=-",
-            "bytes at=16201 taken=5 rx=badsum tx=nothing session=nothing reset=none line=15 up=-",
-            "bytes at=16201 taken=5 rx=badsum tx=nothing session=nothing reset=sums line=15 up=-",
+            "tick at=1601 rx=nothing tx=backoff:100 session=nothing reset=none line=- up=-",
+            "tick at=1701 rx=nothing tx=copy:2 session=nothing reset=none line=01030007FB up=-",
+            "tick at=3302 rx=nothing tx=backoff:1100 session=nothing reset=none line=- up=-",
+            "tick at=4402 rx=nothing tx=copy:3 session=nothing reset=none line=01030007FB up=-",
+            "tick at=6003 rx=nothing tx=backoff:2100 session=nothing reset=none line=- up=-",
+            "tick at=8103 rx=nothing tx=copy:4 session=nothing reset=none line=01030007FB up=-",
+            "tick at=9704 rx=nothing tx=failed:4 session=notsent:4 reset=delivery line=- up=-",
+            "session at=9704 rx=nothing tx=copy:1 session=nothing reset=none line=01030007FB up=-",
+            "byte at=9704 rx=nothing tx=acked:1 session=waiting reset=none line=- up=-",
+            "tick at=14704 rx=nothing tx=nothing session=noresponse:1 reset=none line=- up=-",
+            "session at=14704 rx=nothing tx=copy:1 session=nothing reset=none line=01030007FB up=-",
+            "restart at=14704 rx=nothing tx=nothing session=abandoned reset=none line=15 up=-",
+            "send at=14704 rx=nothing tx=copy:1 session=nothing reset=none line=01030107FA up=-",
+            "restart at=14704 rx=nothing tx=abandoned session=nothing reset=none line=15 up=-",
+            "byte at=14704 rx=nothing tx=nothing session=nothing reset=none line=- up=-",
+            "send at=14704 rx=nothing tx=due session=nothing reset=none line=- up=-",
+            "tick at=16205 rx=abort tx=copy:1 session=nothing reset=none line=01030007FB up=-",
+            "restart at=16205 rx=nothing tx=abandoned session=nothing reset=none line=15 up=-",
+            "restart at=16205 rx=nothing tx=nothing session=nothing reset=none line=15 up=-",
+            "bytes at=16205 taken=5 rx=badsum tx=nothing session=nothing reset=none line=15 up=-",
+            "bytes at=16205 taken=5 rx=badsum tx=nothing session=nothing reset=none line=15 up=-",
+            "bytes at=16205 taken=5 rx=badsum tx=nothing session=nothing reset=sums line=15 up=-",
         ],
     );
 }

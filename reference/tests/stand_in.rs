@@ -88,7 +88,7 @@ fn the_run_of_bad_sums_is_0_after_it() {
 
 #[test]
 fn the_send_goes_on_with_the_same_copy_and_the_same_wait() {
-    for (ticks, frames) in [(0, 1), (1, 3), (800, 1), (1_598, 2), (1_599, 1)] {
+    for (ticks, frames) in [(0, 1), (1, 3), (800, 1), (1_599, 2), (1_600, 1)] {
         let mut bench = waiting();
         bench.quiet_ticks(ticks);
         let before = bench.link.sender_state();
@@ -98,10 +98,10 @@ fn the_send_goes_on_with_the_same_copy_and_the_same_wait() {
         assert_eq!(bench.link.sender_state(), before);
         let mut other = Bench::module();
         other.link = bench.link.clone();
-        // The ACK still counts at 1,599 ticks, and the 1,600th loses the copy.
-        bench.quiet_ticks(1_599 - ticks);
+        // The ACK still counts at 1,600 ticks, and the 1,601st loses the copy.
+        bench.quiet_ticks(1_600 - ticks);
         assert_eq!(bench.byte(6), acked(1));
-        other.quiet_ticks(1_599 - ticks);
+        other.quiet_ticks(1_600 - ticks);
         let lost = says(rx("nothing"), tx("backoff:100"), &[], &[]);
         assert_eq!(other.tick(), lost);
         other.quiet_ticks(99);
@@ -178,7 +178,7 @@ fn bad_lengths_and_aborts_are_as_before() {
     assert_eq!(bench.tick(), says(rx("abort"), tx(""), &[], &[]));
     // The Checksum comes too late to be one.
     assert_eq!(bench.byte(0xFB), says(rx("skipped"), tx(""), &[], &[]));
-    bench.quiet_ticks(98);
+    bench.quiet_ticks(99);
     assert_eq!(bench.byte(6), acked(1));
 }
 
@@ -198,7 +198,7 @@ mod not_waiting {
         assert_eq!(bench.byte(6), acked(1));
         assert_eq!(bench.bytes(&REQ_07), up);
         bench.send(0, 2, &[]).unwrap();
-        bench.ticks(9_700);
+        bench.ticks(9_704);
         assert_eq!(bench.bytes(&RES_07), stray);
     }
 
@@ -251,7 +251,7 @@ mod not_waiting {
     fn lost_inside_that_very_frame() {
         // Lost one tick before the Checksum: it backs off, and is handed up.
         let mut bench = waiting();
-        bench.quiet_ticks(1_599);
+        bench.quiet_ticks(1_600);
         bench.bytes(&REQ_07[..4]);
         let lost = says(rx("nothing"), tx("backoff:100"), &[], &[]);
         assert_eq!(bench.tick(), lost);
@@ -259,11 +259,11 @@ mod not_waiting {
         assert_eq!(bench.byte(0xFB), up);
         // The back-off ends inside the frame too: a due copy follows.
         let mut bench = waiting();
-        bench.quiet_ticks(200);
+        bench.quiet_ticks(201);
         bench.bytes(&REQ_07[..4]);
         let said = bench.ticks(1_500);
         let due = says(rx("nothing"), tx("due"), &[], &[]);
-        assert_eq!(said, [(1_600, lost), (1_700, due)]);
+        assert_eq!(said, [(1_601, lost), (1_701, due)]);
         let line = [&[6][..], &REQ_02].concat();
         assert_eq!(
             bench.byte(0xFB),
@@ -275,8 +275,8 @@ mod not_waiting {
     #[test]
     fn failed_inside_that_very_frame() {
         let mut bench = waiting();
-        bench.ticks(8_100);
-        bench.quiet_ticks(1_599);
+        bench.ticks(8_103);
+        bench.quiet_ticks(1_600);
         bench.bytes(&RES_07[..4]);
         let failed = says(rx("nothing"), tx("failed:4 delivery"), &[], &[]);
         assert_eq!(bench.tick(), failed);
@@ -287,19 +287,19 @@ mod not_waiting {
 
 #[test]
 fn the_state_is_judged_when_the_checksum_comes() {
-    for begun in [100, 1_000, 1_598, 1_599] {
+    for begun in [101, 1_000, 1_599, 1_600] {
         // On the last tick of the wait.
         let mut bench = waiting();
         bench.quiet_ticks(begun);
         bench.bytes(&REQ_07[..4]);
-        bench.quiet_ticks(1_599 - begun);
+        bench.quiet_ticks(1_600 - begun);
         assert_eq!(bench.byte(0xFB), cancelled());
-        assert_eq!(bench.link.sender_state(), State::Waiting(1_599));
+        assert_eq!(bench.link.sender_state(), State::Waiting(1_600));
         // On the next it waits no more.
         let mut bench = waiting();
         bench.quiet_ticks(begun);
         bench.bytes(&REQ_07[..4]);
-        assert_eq!(bench.ticks(1_600 - begun).len(), 1);
+        assert_eq!(bench.ticks(1_601 - begun).len(), 1);
         let up = says(rx("frame"), tx(""), &[6], &[0, 7]);
         assert_eq!(bench.byte(0xFB), up);
     }
@@ -418,17 +418,20 @@ fn the_host_takes_every_frame_while_it_waits() {
     assert_eq!(bench.bytes(&REQ_07), up);
 }
 
+/// Seeds and kinds of the scripts that both roles are given.
+const PLAYED: [(u64, &str); 4] = [
+    (1, "module"),
+    (2, "module"),
+    (3, "mixed"),
+    (4, "coincidences"),
+];
+
 /// Both roles, given the same calls, differ nowhere but where the stand-in
 /// cancels, and are alike again behind it.
 #[test]
 fn the_roles_differ_in_this_rule_alone() {
     let (mut alike, mut cancels) = (0, 0);
-    for (seed, name) in [
-        (1, "module"),
-        (2, "module"),
-        (3, "mixed"),
-        (4, "coincidences"),
-    ] {
+    for (seed, name) in PLAYED {
         let (mut host, mut module) = (Bench::new(), Bench::module());
         let mut store = Vec::new();
         for line in script(seed, kind(name).unwrap(), 2_000).split('\n') {

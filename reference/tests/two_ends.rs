@@ -210,14 +210,14 @@ fn all_that_was_put_out_goes_in_runs_until_it_is_taken() {
 fn what_each_call_puts_out_is_given() {
     // byte, bytes, tick, each tick of ticks, restart, send, session; of both.
     plays(
-        "byte 01\nsend 00 07\nticks 1501\nticks 1700\nrestart\npass\n",
+        "byte 01\nsend 00 07\nticks 1501\nticks 1701\nrestart\npass\n",
         &[
             &line("byte at=0", "nothing", "nothing", "-", "-"),
             &line("send at=0", "nothing", "due", "-", "-"),
             &line("tick at=1501", "abort", "copy:1", "01030007FB", "-"),
-            &line("tick at=3101", "nothing", "backoff:100", "-", "-"),
-            &line("tick at=3201", "nothing", "copy:2", "01030007FB", "-"),
-            &line("restart at=3201", "nothing", "abandoned", "15", "-"),
+            &line("tick at=3102", "nothing", "backoff:100", "-", "-"),
+            &line("tick at=3202", "nothing", "copy:2", "01030007FB", "-"),
+            &line("restart at=3202", "nothing", "abandoned", "15", "-"),
             &line(
                 "module bytes at=0 taken=5",
                 "frame",

@@ -10,14 +10,22 @@ use reference::random::{script, KINDS};
 use reference::report::{Report, SendingPart, SessionPart};
 use reference::script::{understand, Call, LinkCall};
 
-/// The last tick on which a verdict may come, counted from acceptance.
+/// The last tick on which a verdict may come, counted from acceptance, for a
+/// frame that would take no time on the wire.
 const SEND_BOUND: u32 = 15_701;
 const SESSION_BOUND: u32 = 20_700;
+
+/// The last tick for a frame of so many bytes, whose time counts four times.
+fn bound(session: bool, size: usize) -> u32 {
+    let bound = if session { SESSION_BOUND } else { SEND_BOUND };
+    bound + 4 * wire(size)
+}
 
 /// An accepted send or session without its verdict.
 struct Open {
     frame: Vec<u8>,
     session: bool,
+    bound: u32,
     ticks: u32,
     put_out: Vec<u8>,
     /// Whole frames found in them.
@@ -63,6 +71,7 @@ impl Watch {
     fn accepted(&mut self, frame: Vec<u8>, session: bool) {
         assert!(self.open.is_none(), "accepted while one is open");
         self.open = Some(Open {
+            bound: bound(session, frame.len()),
             frame,
             session,
             ticks: 0,
@@ -104,22 +113,17 @@ impl Watch {
             assert!(found.len() <= 4);
             open.copies = found.len();
         }
-        let bound = if open.session {
-            SESSION_BOUND
-        } else {
-            SEND_BOUND
-        };
         match Watch::verdict(open.session, report) {
             Some((copies, failure)) => {
                 assert_eq!(open.copies, usize::from(copies));
                 assert!(!failure || copies == 4);
-                assert!(open.ticks <= bound);
+                assert!(open.ticks <= open.bound);
                 self.verdicts += 1;
                 self.failures += u32::from(failure);
                 self.latest = self.latest.max(open.ticks);
                 self.open = None;
             }
-            None => assert!(open.ticks < bound, "no verdict in time"),
+            None => assert!(open.ticks < open.bound, "no verdict in time"),
         }
     }
 }
@@ -213,51 +217,77 @@ fn random_histories_of_a_stand_in_keep_the_promises() {
     assert!(failures > 400, "{failures}");
 }
 
-/// The slowest history: accepted just after a 01, lost four times, and each
-/// back-off ends just after another 01.
-fn slowest(open: &str) -> String {
-    let mut text = format!("byte 01\n{open}\nticks 1501\n");
+/// The slowest history of a frame of so many bytes: accepted just after a 01,
+/// lost four times, and each back-off ends just after another 01.
+fn slowest(open: &str, size: usize) -> String {
+    let mut text = format!("byte 01\n{open}{}\nticks 1501\n", " 06".repeat(size - 5));
     for back_off in [100, 1_100, 2_100] {
         // The loss, then all but one tick of the back-off, then a 01 whose
         // abort puts the due copy out.
-        let ticks = 1_600 + back_off - 1;
+        let ticks = 1_600 + wire(size) + back_off - 1;
         text += &format!("ticks {ticks}\nbyte 01\nticks 1501\n");
     }
     text
 }
 
-#[test]
-fn a_send_can_take_15701_ticks() {
-    let text = slowest("send 00 07 01 06") + "ticks 1600\nticks 9000\n";
+/// The same to its end: copy 4 is lost.
+fn slowest_send(size: usize) -> String {
+    slowest("send 00 07", size) + &format!("ticks {}\n", 1_600 + wire(size))
+}
+
+/// The same to its end: copy 4 is acknowledged on the last tick that counts,
+/// and no response comes.
+fn slowest_session(size: usize) -> String {
+    let last = 1_599 + wire(size);
+    slowest("session 07", size) + &format!("ticks {last}\nbyte 06\nticks 5000\n")
+}
+
+/// Verdicts, failures and the tick of the verdict at both ends, with ticks
+/// enough for another verdict, if there were one.
+fn both_take(text: &str, expected: (u32, u32, u32)) {
     for role in [Role::Host, Role::Module] {
-        let watch = watched(role, &text);
-        assert_eq!(
-            (watch.verdicts, watch.failures, watch.latest),
-            (1, 1, 15_701)
-        );
+        let watch = watched(role, &format!("{text}ticks 9000\n"));
+        assert_eq!((watch.verdicts, watch.failures, watch.latest), expected);
     }
-    let lines = played(&(slowest("send 00 07") + "ticks 1600\n"));
-    assert_eq!(
-        lines.last().unwrap(),
-        "tick at=15701 rx=nothing tx=failed:4 session=nothing reset=delivery line=- up=-"
-    );
 }
 
 #[test]
-fn a_session_can_take_20700_ticks() {
-    let text = slowest("session 07 01") + "ticks 1599\nbyte 06\nticks 5000\nticks 9000\n";
-    for role in [Role::Host, Role::Module] {
-        let watch = watched(role, &text);
-        assert_eq!(
-            (watch.verdicts, watch.failures, watch.latest),
-            (1, 0, 20_700)
-        );
+fn a_send_can_take_15701_and_4w_ticks() {
+    for size in 5..=257 {
+        both_take(&slowest_send(size), (1, 1, 15_701 + 4 * wire(size)));
     }
-    let lines = played(&text);
-    assert_eq!(
-        lines.last().unwrap(),
-        "tick at=20700 rx=nothing tx=nothing session=noresponse:4 reset=none line=- up=-"
-    );
+    // 1 tick on the wire for 5 bytes, 23 for 257.
+    for (size, line) in [
+        (
+            5,
+            "tick at=15705 rx=nothing tx=failed:4 session=nothing reset=delivery line=- up=-",
+        ),
+        (
+            257,
+            "tick at=15793 rx=nothing tx=failed:4 session=nothing reset=delivery line=- up=-",
+        ),
+    ] {
+        assert_eq!(played(&slowest_send(size)).last().unwrap(), line);
+    }
+}
+
+#[test]
+fn a_session_can_take_20700_and_4w_ticks() {
+    for size in 5..=257 {
+        both_take(&slowest_session(size), (1, 0, 20_700 + 4 * wire(size)));
+    }
+    for (size, line) in [
+        (
+            5,
+            "tick at=20704 rx=nothing tx=nothing session=noresponse:4 reset=none line=- up=-",
+        ),
+        (
+            257,
+            "tick at=20792 rx=nothing tx=nothing session=noresponse:4 reset=none line=- up=-",
+        ),
+    ] {
+        assert_eq!(played(&slowest_session(size)).last().unwrap(), line);
+    }
 }
 
 /// The watch itself must be able to find fault.
@@ -322,11 +352,21 @@ mod the_watch_finds {
         (0..4).for_each(|_| watch.call(&copy, &REQ_07, false));
     }
 
-    #[test]
-    #[should_panic]
-    fn no_verdict_in_time() {
+    /// A frame of 5 bytes without a verdict on so many ticks.
+    fn without_a_verdict(ticks: u32) {
         let nothing = report(SendingPart::Nothing, SessionPart::Nothing);
         let mut watch = sent();
-        (0..SEND_BOUND).for_each(|_| watch.call(&nothing, &[], true));
+        (0..ticks).for_each(|_| watch.call(&nothing, &[], true));
+    }
+
+    #[test]
+    #[should_panic(expected = "no verdict in time")]
+    fn no_verdict_in_time() {
+        without_a_verdict(15_705);
+    }
+
+    #[test]
+    fn no_fault_before_that_time() {
+        without_a_verdict(15_704);
     }
 }

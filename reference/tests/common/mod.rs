@@ -231,6 +231,13 @@ pub fn framed(kind: u8, command: u8, parameters: &[u8]) -> Vec<u8> {
     frame
 }
 
+/// Ticks that a frame of so many bytes takes on the wire (request P2), made
+/// without the program under test: the fewest that reach 25/288 for a byte.
+pub fn wire(size: usize) -> u32 {
+    let size = size as u32;
+    (0..).find(|ticks| 288 * ticks >= 25 * size).unwrap()
+}
+
 /// Makes a call on a link; how many bytes were taken, and the report.
 pub fn called(
     link: &mut Link,
