@@ -25,5 +25,6 @@ pub mod script;
 pub mod sending;
 pub mod session;
 pub mod stream;
+pub mod wire_scenes;
 pub mod writer_scenes;
 pub mod writers;

@@ -221,7 +221,7 @@ pub fn pass_now(scribe: &mut Scribe) {
 }
 
 /// Passes until nothing is left to give, but not for ever.
-fn settle_line(scribe: &mut Scribe) {
+pub fn settle_line(scribe: &mut Scribe) {
     for _ in 0..4 {
         if scribe.ends().silent() {
             return;

@@ -4,6 +4,7 @@ use crate::module_scenes::*;
 use crate::other_scenes::*;
 use crate::scenes::*;
 use crate::scribe::Scribe;
+use crate::wire_scenes::*;
 use crate::writer_scenes::*;
 
 /// A scene writes a few lines of a script.
@@ -239,6 +240,18 @@ pub const KINDS: &[Kind] = &[
             (4, write_nodes_call),
             (4, write_timeouts_call),
             (1, malformed_writer),
+        ],
+    },
+    Kind {
+        name: "wire",
+        seeks: "frames at both sides of steps of the wire time, answered about when a copy is lost",
+        scenes: &[
+            (6, answer_at_loss),
+            (5, behind_an_answer),
+            (3, silent_line),
+            (2, ack_goes_over),
+            (2, checksum_at_loss),
+            (2, abort_at_loss),
         ],
     },
 ];

@@ -276,12 +276,14 @@ fn bodies_are_taken_and_refused_for_every_cause() {
     }
 }
 
-/// A copy that an end put out last: on which tick, its number and its size.
+/// A copy that an end put out last: on which tick, its number, its size, and
+/// the byte before it in the same call.
 #[derive(Clone, Copy, Default)]
 struct Sent {
     at: i64,
     number: u32,
     size: usize,
+    behind: Option<u8>,
 }
 
 /// A part of a line.
@@ -293,11 +295,13 @@ fn part<'a>(line: &'a str, name: &str) -> Option<&'a str> {
 fn sent(line: &str, at: i64) -> Option<Sent> {
     let number = part(line, "tx=copy:")?.parse().unwrap();
     let out = part(line, "line=").unwrap();
-    let behind = !out.starts_with("01");
+    let first = u8::from_str_radix(&out[..2], 16).unwrap();
+    let behind = (first != 0x01).then_some(first);
     Some(Sent {
         at,
         number,
-        size: out.len() / 2 - usize::from(behind),
+        size: out.len() / 2 - usize::from(behind.is_some()),
+        behind,
     })
 }
 
@@ -396,26 +400,28 @@ fn a_stand_in_meets_every_end_in_every_state() {
 /// because the copy had been lost.
 #[test]
 fn checksums_come_on_the_last_tick_of_a_wait_and_on_the_next() {
-    let mut lost = false;
-    let (mut cancelled, mut taken) = (HashSet::new(), HashSet::new());
-    each_wait(&lines_of("module"), |line, module, _, late| {
-        if !module {
-            return;
-        }
-        if line.contains("rx=cancelled") {
-            cancelled.insert(late);
-        } else if line.contains("line=06") && !line.contains("up=-") && lost {
-            taken.insert(late);
-        }
-        if line.contains("tx=copy:") {
-            lost = false;
-        } else if line.contains("tx=backoff:") {
-            lost = true;
-        }
-    });
-    assert!(cancelled.contains(&-2) && cancelled.contains(&-1));
-    assert!(cancelled.iter().all(|&late| late < 0));
-    assert!(taken.contains(&0) && taken.contains(&1));
+    for name in ["module", "wire"] {
+        let mut lost = false;
+        let (mut cancelled, mut taken) = (HashSet::new(), HashSet::new());
+        each_wait(&lines_of(name), |line, module, _, late| {
+            if !module {
+                return;
+            }
+            if line.contains("rx=cancelled") {
+                cancelled.insert(late);
+            } else if line.contains("line=06") && !line.contains("up=-") && lost {
+                taken.insert(late);
+            }
+            if line.contains("tx=copy:") {
+                lost = false;
+            } else if line.contains("tx=backoff:") {
+                lost = late == 0;
+            }
+        });
+        assert!(cancelled.contains(&-2) && cancelled.contains(&-1));
+        assert!(cancelled.iter().all(|&late| late < 0));
+        assert!(taken.contains(&0) && taken.contains(&1));
+    }
 }
 
 /// And on the tick of the copy itself.
@@ -427,6 +433,157 @@ fn checksums_come_straight_after_a_copy() {
         found += u32::from(at_once && line.contains("rx=cancelled"));
     });
     assert!(found >= 3, "{found}");
+}
+
+/// The sizes that the kind `wire` seeks: the least and the most, and on both
+/// sides of steps of the time on the wire.
+const SIZES: [usize; 14] = [5, 11, 12, 23, 24, 34, 35, 103, 104, 241, 242, 253, 254, 257];
+
+/// What an end said of a copy, and how late.
+struct Met {
+    word: &'static str,
+    late: i64,
+    module: bool,
+    copy: Sent,
+}
+
+/// What is met in the lines of the kind `wire`.
+fn met_on_the_wire() -> Vec<Met> {
+    let words = ["tx=acked:", "tx=backoff:", "tx=failed:", "tx=stray"];
+    let mut all = Vec::new();
+    each_wait(&lines_of("wire"), |line, module, copy, late| {
+        for word in words.into_iter().filter(|word| line.contains(word)) {
+            all.push(Met {
+                word,
+                late,
+                module,
+                copy,
+            });
+        }
+    });
+    all
+}
+
+/// Such a word must be said so late, of such a copy.
+fn meets(all: &[Met], word: &str, late: i64, such: impl Fn(&Met) -> bool, of: &str) {
+    let found = all
+        .iter()
+        .any(|met| met.word == word && met.late == late && such(met));
+    assert!(found, "{word} {late} {of}");
+}
+
+#[test]
+fn each_size_is_answered_on_the_last_tick_of_its_wait_and_on_the_next() {
+    let all = met_on_the_wire();
+    for size in SIZES {
+        let of = format!("of {size} bytes");
+        for module in [false, true] {
+            let such = |met: &Met| met.copy.size == size && met.module == module;
+            meets(&all, "tx=acked:", -1, such, &of);
+            meets(&all, "tx=backoff:", 0, such, &of);
+        }
+        // One tick earlier too; and a byte on the tick of the loss and on the next.
+        let such = |met: &Met| met.copy.size == size;
+        meets(&all, "tx=acked:", -2, such, &of);
+        meets(&all, "tx=stray", 0, such, &of);
+        meets(&all, "tx=stray", 1, such, &of);
+    }
+    let acked = |met: &&Met| met.word == "tx=acked:";
+    assert!(all.iter().filter(acked).all(|met| met.late < 0));
+}
+
+#[test]
+fn each_copy_is_answered_on_the_last_tick_of_its_wait_and_lost_on_the_next() {
+    let all = met_on_the_wire();
+    for number in 1..=4 {
+        let of = format!("of copy {number}");
+        let lost = if number == 4 {
+            "tx=failed:"
+        } else {
+            "tx=backoff:"
+        };
+        for module in [false, true] {
+            let such = |met: &Met| met.copy.number == number && met.module == module;
+            meets(&all, "tx=acked:", -1, such, &of);
+            meets(&all, lost, 0, such, &of);
+            meets(&all, "tx=stray", 0, such, &of);
+        }
+    }
+}
+
+/// Where a byte more would take a tick more, too.
+#[test]
+fn copies_wait_behind_a_06_and_behind_a_15() {
+    let all = met_on_the_wire();
+    for answer in [0x06, 0x15] {
+        let of = format!("behind {answer:02X}");
+        for module in [false, true] {
+            let such = |met: &Met| met.copy.behind == Some(answer) && met.module == module;
+            meets(&all, "tx=acked:", -1, such, &of);
+            meets(&all, "tx=backoff:", 0, such, &of);
+            meets(&all, "tx=stray", 0, such, &of);
+        }
+    }
+    for size in [11, 23, 34, 103, 241, 253] {
+        let of = format!("behind 06, of {size} bytes");
+        let such = |met: &Met| met.copy.behind == Some(0x06) && met.copy.size == size;
+        meets(&all, "tx=acked:", -1, such, &of);
+        meets(&all, "tx=backoff:", 0, such, &of);
+    }
+    let such = |met: &Met| met.copy.behind == Some(0x06) && met.copy.number == 4;
+    meets(&all, "tx=acked:", -1, such, "behind 06, of copy 4");
+    meets(&all, "tx=failed:", 0, such, "behind 06, of copy 4");
+}
+
+/// The ACK comes back by a pass on the last tick that counts, and too late.
+#[test]
+fn frames_go_over_and_their_acks_come_back_at_the_edge() {
+    let mut told = HashSet::new();
+    each_wait(&lines_of("wire"), |line, module, _, late| {
+        if line.contains("bytes at=") && line.contains("line=- ") {
+            told.insert((module, part(line, "tx=").unwrap().to_string(), late));
+        }
+    });
+    for module in [false, true] {
+        assert!(told.contains(&(module, "acked:1".to_string(), -1)));
+        assert!(told.contains(&(module, "stray".to_string(), 0)));
+    }
+}
+
+/// A session whose ACK came on the last tick that counts, to its end.
+#[test]
+fn responses_are_awaited_behind_late_acks() {
+    let mut behind = [false; 2];
+    let mut ends = HashSet::new();
+    each_wait(&lines_of("wire"), |line, module, _, late| {
+        let behind = &mut behind[usize::from(module)];
+        let session = part(line, "session=").unwrap();
+        if session == "waiting" {
+            *behind = late == -1;
+        } else if session != "nothing" && *behind {
+            let (end, _) = session.split_once(':').unwrap_or((session, ""));
+            ends.insert((module, end.to_string()));
+        }
+    });
+    for module in [false, true] {
+        for end in ["response", "noresponse"] {
+            assert!(ends.contains(&(module, end.to_string())), "{module} {end}");
+        }
+    }
+}
+
+#[test]
+fn the_wire_meets_silent_lines_aborts_and_cancelled_frames() {
+    let edges = [
+        "rx=abort tx=backoff:100",
+        "tx=failed:4 session=nothing",
+        "tx=failed:4 session=notsent:4",
+        "session=response:4",
+        "session=noresponse:4",
+        "module bytes at=",
+        "rx=cancelled",
+    ];
+    reaches("wire", &edges);
 }
 
 #[test]

@@ -37,14 +37,21 @@ fn follow(link: &mut Link, call: LinkCall<'_>) {
     let _ = called(link, call, &mut [0; 258], &mut [0; 254]);
 }
 
-/// A kind with calls of every sort, and the one that seeks the stand-in's edges.
-const SOUGHT: [&str; 2] = ["mixed", "module"];
+/// A kind with calls of every sort, the one that seeks the stand-in's edges, and
+/// the one with frames of every time on the wire.
+const SOUGHT: [&str; 3] = ["mixed", "module", "wire"];
+
+/// A script of the kind that is this seed's turn.
+fn sought(seed: u64, lines: usize) -> String {
+    let name = SOUGHT[seed as usize % SOUGHT.len()];
+    script(seed, kind(name).unwrap(), lines)
+}
 
 #[test]
 fn a_run_equals_its_bytes_one_by_one() {
     let mut runs = 0;
-    for seed in 1..=6 {
-        let text = script(seed, kind(SOUGHT[seed as usize % 2]).unwrap(), 3_000);
+    for seed in 1..=9 {
+        let text = sought(seed, 3_000);
         each_call(&text, |link, call| {
             let LinkCall::Bytes(run) = call else { return };
             let (mut whole, mut single) = (Bench::new(), Bench::new());
@@ -71,8 +78,8 @@ fn a_run_equals_its_bytes_one_by_one() {
 #[test]
 fn a_refusal_changes_nothing_in_any_state() {
     let mut dice = Dice::new(9);
-    for seed in 1..=4 {
-        let text = script(seed, kind(SOUGHT[seed as usize % 2]).unwrap(), 1_500);
+    for seed in 1..=6 {
+        let text = sought(seed, 1_500);
         each_call(&text, |link, _| {
             let mut after = link.clone();
             let (line_room, up_room) = dice.one(&[(257, 254), (258, 253), (0, 0), (600, 0)]);
@@ -102,8 +109,8 @@ fn a_refusal_changes_nothing_in_any_state() {
 #[test]
 fn bytes_put_out_have_their_cause_in_the_report() {
     use reference::report::{ReceptionPart, SendingPart};
-    for seed in 1..=4 {
-        let text = script(seed, kind(SOUGHT[seed as usize % 2]).unwrap(), 3_000);
+    for seed in 1..=6 {
+        let text = sought(seed, 3_000);
         each_call(&text, |link, call| {
             let mut bench = Bench::new();
             bench.link = link.clone();

@@ -419,11 +419,12 @@ fn the_host_takes_every_frame_while_it_waits() {
 }
 
 /// Seeds and kinds of the scripts that both roles are given.
-const PLAYED: [(u64, &str); 4] = [
+const PLAYED: [(u64, &str); 5] = [
     (1, "module"),
     (2, "module"),
     (3, "mixed"),
     (4, "coincidences"),
+    (5, "wire"),
 ];
 
 /// Both roles, given the same calls, differ nowhere but where the stand-in
