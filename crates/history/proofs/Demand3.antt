@@ -1,4 +1,4 @@
--- Demand 3 over all histories, for any rules that fit, and for document 01's.
+-- Demand 3 over all histories, for any rules that fit, and for those that hold.
 -- Assumes nothing.
 use Prim.Native.Nat.{ℕ, _+_, _≤_}
 use mathlib.Core.Path.{_≡_, refl, subst, fun-ext}

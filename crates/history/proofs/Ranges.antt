@@ -313,7 +313,7 @@ in-range-by R g fit most longest h x =
       frame = z .frame;
     }
 
--- On links reached from opening no guard is ever met: document 01's rules, whose longest back-off is 2,100 ticks.
+-- On links reached from opening no guard is ever met: the rules that hold, whose longest back-off is 2,100 ticks.
 pub in-range : (c : Choice) (h : List Call) → ComeAll IsByte h → InRange (rulesOf c) 2100 (after (rulesOf c) h)
 in-range c h x = in-range-by (rulesOf c) backOffs (rules-fit c) 2100 longest h x
   where

@@ -51,7 +51,7 @@ fail a n = record { job = Idle; sending = sending.Failed n; session = notSent a 
 abbrev pub backingOff : Millis → Asking → ℕ → Act
 backingOff time a n = goesOn (BackingOff a n (time .0)) (sending.BackingOff time)
 
--- Back off so many ticks; 0 is none, which document 01's rules never give.
+-- Back off so many ticks; 0 is none, which the rules that hold never give.
 abbrev pub backOff : ℕ → Bool → Asking → ℕ → Act
 backOff ticks hunting a n = pick (eqb ticks 0) (start hunting a n) (backingOff (record { 0 = ticks }) a n)
 

@@ -44,7 +44,7 @@ backOffs n = pick (eqb n 1) 100 (pick (eqb n 2) 1100 2100)
 unfoldable pub wireTime : ℕ → ℕ
 wireTime b = (25 * min b 257 + 287) / 288
 
--- document 01's rules, the host's: 1,600 ticks behind the time on the wire, the same back-offs for both causes
+-- the rules that hold, the host's: 1,600 ticks behind the time on the wire, the same back-offs for both causes
 abbrev pub base : Rules
 base = record { choice = usual; wait = λ size. 1600 + wireTime size; back = λ cause n. backOffs n }
 
@@ -52,6 +52,6 @@ base = record { choice = usual; wait = λ size. 1600 + wireTime size; back = λ 
 abbrev pub chosen : Choice → Rules → Rules
 chosen c R = record { choice = c; wait = R .wait; back = R .back }
 
--- the rules of a link that was opened so: the stand-in sends by document 01's rules too
+-- the rules of a link that was opened so: the stand-in sends by the same
 abbrev pub rulesOf : Choice → Rules
 rulesOf c = chosen c base

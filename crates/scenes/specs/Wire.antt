@@ -67,18 +67,18 @@ silent-257 =
 abbrev pub dueThen : ℕ → List Call
 dueThen checksum = given 0x01 ∷ send11 ∷ given 0x03 ∷ given 0x00 ∷ given 0x07 ∷ given checksum ∷ silence 1_601
 
-abbrev pub behind : Reception → ℕ → List Seen
-behind r reply =
+abbrev pub goesBehind : Reception → ℕ → List Seen
+goesBehind r reply =
     sendingSays 0 sending.Due []
     ∷ said 0 r (sending.Copy 1) session.Nothing reset.Nothing (reply ∷ frame11)
     ∷ backsOff 100 1_601
     ∷ []
 
 unfoldable pub behind-06 : Example
-behind-06 = record { question = play (dueThen 0xFB); expected = shows (behind reception.Frame 0x06) }
+behind-06 = record { question = play (dueThen 0xFB); expected = shows (goesBehind reception.Frame 0x06) }
 
 unfoldable pub behind-15 : Example
-behind-15 = record { question = play (dueThen 0xFA); expected = shows (behind reception.BadSum 0x15) }
+behind-15 = record { question = play (dueThen 0xFA); expected = shows (goesBehind reception.BadSum 0x15) }
 
 -- A session waits 5,000 for its response, as ever: from 06, here the last that counts.
 unfoldable pub response-as-ever : Example
