@@ -1,6 +1,6 @@
 -- Demand 3 over all histories, for any rules that fit, and for those that hold.
 -- Assumes nothing.
-use Prim.Native.Nat.{ℕ, _+_, _≤_}
+use Prim.Native.Nat.{ℕ, _+_, _*_, _≤_}
 use mathlib.Core.Path.{_≡_, refl, subst, fun-ext}
 use mathlib.Core.Bool.{Bool, true, false}
 use mathlib.Core.List.{List, [], _∷_, _++_}
@@ -27,7 +27,7 @@ use Rattle.link.specs.declared.link.Link.{Link}
 use Rattle.history.specs.Perform.{send, session, Call, checksOf}
 use Rattle.history.specs.History.{after}
 use Rattle.history.specs.Watch.{abandonsIn, verdictOf, watch, watched}
-use Rattle.history.specs.Bound.{Fits, bound}
+use Rattle.history.specs.Bound.{Fits, extra, bound}
 use Rattle.history.specs.Demand3.{Kept, Demand3, EverySend, EverySession, sendBound, sessionBound, HostDemand3, StandInDemand3}
 use Rattle.history.proofs.Mix.{end as finish, IsFrame, mix-answers}
 use Rattle.history.proofs.Hearing.{room, InTime}
@@ -112,18 +112,15 @@ module _ (R : Rules) (g : ℕ → ℕ) (fit : Fits R g) where
 pub rules-fit : (c : Choice) → Fits (rulesOf c) backOffs
 rules-fit c = record { wait = λ size. omega arith; late = λ n. omega arith; early = λ n. omega arith }
 
--- in numbers: of four waits four times the time on the wire remains
-send-bound-is : (c : Choice) → bound (rulesOf c) backOffs Plain ≡ sendBound
-send-bound-is c = fun-ext (λ size. let e : bound (rulesOf c) backOffs Plain size ≡ sendBound size = omega arith in e)
-
-session-bound-is : (c : Choice) → bound (rulesOf c) backOffs (Asks 0) ≡ sessionBound
-session-bound-is c = fun-ext (λ size. let e : bound (rulesOf c) backOffs (Asks 0) size ≡ sessionBound size = omega arith in e)
+-- in numbers: 15,701, what a session's response takes more, and four times the time on the wire
+bound-is : (c : Choice) (a : Asking) → bound (rulesOf c) backOffs a ≡ (λ size. 15701 + extra a + 4 * wireTime size)
+bound-is c a = fun-ext (λ size. let e : bound (rulesOf c) backOffs a size ≡ 15701 + extra a + 4 * wireTime size = omega arith in e)
 
 pub every-send : (c : Choice) → EverySend (rulesOf c) sendBound
-every-send c = subst (EverySend (rulesOf c)) (send-bound-is c) (send-demand3 (rulesOf c) backOffs (rules-fit c))
+every-send c = subst (EverySend (rulesOf c)) (bound-is c Plain) (send-demand3 (rulesOf c) backOffs (rules-fit c))
 
 pub every-session : (c : Choice) → EverySession (rulesOf c) sessionBound
-every-session c = subst (EverySession (rulesOf c)) (session-bound-is c) (session-demand3 (rulesOf c) backOffs (rules-fit c))
+every-session c = subst (EverySession (rulesOf c)) (bound-is c (Asks 0)) (session-demand3 (rulesOf c) backOffs (rules-fit c))
 
 pub host-demand3 : HostDemand3
 host-demand3 = (every-send usual, every-session usual)

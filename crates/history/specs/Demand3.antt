@@ -95,11 +95,11 @@ EverySession R bound =
     → perform R (after R h) (record { what = session command ps; line = line; up = up }) ≡ took o
     → Demand3 R (Asks command) (frameOf REQ command ps) (bound (length (frameOf REQ command ps))) o k
 
--- the verdict comes by the 15,701st accepted tick after acceptance, and four times the frame's time on the wire
+-- the verdict comes by accepted tick 15,701 after acceptance, and four times the frame's time on the wire later
 abbrev pub sendBound : ℕ → ℕ
 sendBound size = 15701 + 4 * wireTime size
 
--- a session: by the 20,700th, and as much
+-- a session: by tick 20,700, and as much later
 abbrev pub sessionBound : ℕ → ℕ
 sessionBound size = 20700 + 4 * wireTime size
 

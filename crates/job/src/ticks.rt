@@ -26,7 +26,7 @@ fn ack_wait(size: u16) -> Millis
     Millis(behind.0 + (wire as u32))
 }
 
-// Whether a copy that has waited so long still waits. Every copy waits the time behind the wire, so until then the list is not read.
+// Whether a copy that has waited so long still waits. No copy waits less than `ACK_WAIT`, so before that the list is not read.
 fn still_waits(size: u16, elapsed: u32) -> bool
     ensures { λ r. ⌜ r ≡ ltb elapsed (base .wait size) ⌝ }
 {

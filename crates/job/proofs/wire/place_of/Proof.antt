@@ -1,7 +1,6 @@
 -- `job::wire::place_of` meets its contract.
 -- Assumes nothing.
 use native.Mathlib.Omega.{arith}
-use borrow.Author.Needs.{needs}
 use Rattle.job.proofs.wire.place_of.Statement.{statement}
 use Rattle.job.proofs.wire.place_of.Tie as tie
 
