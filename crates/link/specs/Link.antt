@@ -29,7 +29,7 @@ timings =
     record {
       -- The tick that makes a frame's clock 1,501 aborts the frame: it may take 1,500.
       «frame_time» = millis 1500;
-      -- Each later tick adds 1 to a copy's wait; at 1,600 the copy is lost.
+      -- Each later tick adds 1 to a copy's wait; at 1,600 behind its time on the wire the copy is lost.
       «ack_wait» = millis 1600;
       -- From the ACK a session waits 5,000 ticks.
       «response_wait» = millis 5000;
