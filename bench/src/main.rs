@@ -41,10 +41,16 @@ struct Answer(u64, Vec<u8>);
 
 type Contestant<'a> = (&'a str, Box<dyn FnMut() -> Answer + 'a>);
 
-/// Times each contestant once a round, in an order that turns with the rounds. All must answer the same.
+/// Whether it is the code of an earlier revision. That may answer otherwise: a request may have changed the answer since.
+fn is_earlier(name: &str) -> bool {
+    name.ends_with("before")
+}
+
+/// Times each contestant once a round, in an order that turns with the rounds. All must answer as the first does.
 fn race(what: &str, units: f64, contestants: &mut [Contestant]) -> Result<Vec<Timed>, String> {
     let many = contestants.len();
     let mut times: Vec<Vec<f64>> = vec![Vec::new(); many];
+    let mut otherwise = vec![false; many];
     let mut first: Option<Answer> = None;
     // The first round warms up and is not counted.
     for round in 0..=ROUNDS {
@@ -59,17 +65,17 @@ fn race(what: &str, units: f64, contestants: &mut [Contestant]) -> Result<Vec<Ti
             }
             match &first {
                 None => first = Some(answer),
-                Some(before) if *before != answer => {
-                    return Err(format!("{what}: {name} answers otherwise than the others"));
-                }
-                Some(_) => {}
+                Some(right) if *right == answer => {}
+                Some(_) if is_earlier(name) => otherwise[which] = true,
+                Some(_) => return Err(format!("{what}: {name} answers otherwise than the others")),
             }
         }
     }
     Ok(contestants
         .iter()
         .zip(times)
-        .map(|((name, _), times)| Timed::of(name, times))
+        .zip(otherwise)
+        .map(|(((name, _), times), otherwise)| Timed::of(name, times, otherwise))
         .collect())
 }
 
@@ -332,7 +338,7 @@ fn explain() {
         INPUT / 1024 / 1024
     );
     println!("- Each link is made ready by calls before the measured ones, and no compiler knows its state. \"No job\" is a fresh link. \"A job open\" is a session with the parameters 01 02 03 whose first copy was answered by 15: it backs off, and since no tick comes it does so for the whole input, so the job is open from the first byte to the last. The ticks from the back-off on go through its wait, the other copies and their waits, until the session fails, and then on; they are 1,000,000, as the quiet ones.");
-    println!("- Each figure is the median of {ROUNDS} rounds, behind one that is not counted; within a round all run in turn, in an order that turns with the rounds. Times are of the thread, so what other programs take is left out. The lent buffers are cleared at the start of each timed run, and all answers and lent bytes are compared.");
+    println!("- Each figure is the median of {ROUNDS} rounds, behind one that is not counted; within a round all run in turn, in an order that turns with the rounds. Times are of the thread, so what other programs take is left out. The lent buffers are cleared at the start of each timed run, and all answers and lent bytes are compared. A time with * is of an earlier revision that answers otherwise there, since a request changed the answer.");
 }
 
 fn measure() -> Result<(), String> {

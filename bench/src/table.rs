@@ -1,17 +1,19 @@
 //! Medians, ratios and targets, laid out as a Markdown table.
 
-/// A contestant and the median of its times.
+/// A contestant, the median of its times, and whether it answers otherwise than the others.
 pub struct Timed {
     pub name: String,
     pub median: f64,
+    otherwise: bool,
 }
 
 impl Timed {
-    pub fn of(name: &str, mut times: Vec<f64>) -> Timed {
+    pub fn of(name: &str, mut times: Vec<f64>, otherwise: bool) -> Timed {
         times.sort_by(f64::total_cmp);
         Timed {
             name: name.to_string(),
             median: times[times.len() / 2],
+            otherwise,
         }
     }
 
@@ -47,13 +49,19 @@ impl Row {
         }
     }
 
+    fn timed(&self, name: &str) -> Option<&Timed> {
+        self.times.iter().find(|timed| timed.name == name)
+    }
+
     fn median(&self, name: &str) -> Option<f64> {
-        self.times.iter().find(|t| t.name == name).map(|t| t.median)
+        self.timed(name).map(|timed| timed.median)
     }
 
     fn time(&self, name: &str) -> String {
-        self.median(name)
-            .map_or(String::new(), |time| format!("{time:.2}"))
+        self.timed(name).map_or(String::new(), |timed| {
+            let mark = if timed.otherwise { " *" } else { "" };
+            format!("{:.2}{mark}", timed.median)
+        })
     }
 
     fn ratio(&self, name: &str) -> String {
