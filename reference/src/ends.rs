@@ -1,5 +1,6 @@
 //! The two ends of a play (linkplay.md, P5): the host and the stand-in, each
-//! with its link, its count of ticks, and what it has put out.
+//! with its link, its count of ticks, and what it has put out; and how an end
+//! is opened anew (P4).
 
 use crate::choice::{Choice, Role};
 use crate::link::Link;
@@ -27,6 +28,11 @@ impl Direction {
 
     pub fn bytes(&self) -> &[u8] {
         &self.bytes
+    }
+
+    /// Whether something was not kept.
+    pub fn lost(&self) -> bool {
+        self.lost
     }
 
     /// Keeps what a call put out, if it fits whole.
@@ -76,9 +82,9 @@ pub struct LineEnd {
 }
 
 impl LineEnd {
-    fn open(role: Role) -> LineEnd {
+    fn open(choice: Choice) -> LineEnd {
         LineEnd {
-            link: Link::open_as(Choice { role }),
+            link: Link::open_as(choice),
             ticks: 0,
             out: Direction::empty(),
         }
@@ -146,9 +152,15 @@ pub struct Ends {
 impl Ends {
     pub fn open() -> Ends {
         Ends {
-            host: LineEnd::open(Role::Host),
-            module: LineEnd::open(Role::Module),
+            host: LineEnd::open(Choice::HOST),
+            module: LineEnd::open(Choice::MODULE),
         }
+    }
+
+    /// Opens an end anew. What it had put out is dropped, and with it that some
+    /// of it was not kept; what the other had put out to it stays.
+    pub fn open_anew(&mut self, choice: Choice) {
+        *self.of_mut(choice.role) = LineEnd::open(choice);
     }
 
     pub fn of(&self, role: Role) -> &LineEnd {

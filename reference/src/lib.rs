@@ -12,6 +12,7 @@ pub mod ends;
 pub mod frame;
 pub mod linecount;
 pub mod link;
+pub mod mode_scenes;
 pub mod module_scenes;
 pub mod other_scenes;
 pub mod play;

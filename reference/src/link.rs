@@ -1,6 +1,6 @@
 //! The calls of section 3 on a link, and how reception (4), the sender (5) and
 //! the session (6) work together in them; with the one rule in which the
-//! stand-in of request P5 differs from the host.
+//! stand-in of request P5 differs from the host, and the modes of request P4.
 
 use crate::choice::{Choice, Role};
 use crate::frame::{ACK, CAN, MOST_BODY, MOST_FRAME, NAK, REQ};
@@ -10,8 +10,8 @@ use crate::report::{ReceptionPart, Report, ResetPart, SendingPart, SessionPart};
 use crate::sending::{Sender, State};
 use crate::session::Session;
 
-/// An end of the link, the host's unless another was chosen. A tick is a
-/// millisecond.
+/// An end of the link, the host's unless another was chosen, in one of the two
+/// modes. A tick is a millisecond.
 #[derive(Clone, Debug, PartialEq, Eq)]
 pub struct Link {
     /// Set by the opening alone.
@@ -27,7 +27,8 @@ impl Link {
     /// A copy not acknowledged as many ticks behind its time on the wire is
     /// lost (section 5, request P2).
     pub const ACK_TICKS: u16 = 1_600;
-    /// Back-offs after copies 1, 2 and 3 (section 5).
+    /// Back-offs after copies 1, 2 and 3 (section 5). After a loss by time the
+    /// new mode subtracts `ACK_TICKS` from them (request P4).
     pub const BACK_OFF_TICKS: [u16; 3] = [100, 1_100, 2_100];
     /// A session waits as many ticks from its ACK (section 6).
     pub const RESPONSE_TICKS: u16 = 5_000;
@@ -38,7 +39,8 @@ impl Link {
     /// What every call needs for the frame handed up.
     pub const UP_ROOM: usize = MOST_BODY;
 
-    /// A fresh host. Nothing is put out.
+    /// A fresh host, in the mode of a link without a choice. Nothing is put
+    /// out.
     pub fn open() -> Link {
         Link::open_as(Choice::HOST)
     }
@@ -86,7 +88,8 @@ impl Link {
         if self.reception.tick() {
             report.reception = ReceptionPart::Abort;
         }
-        let (sending, size) = self.sender.tick(self.reception.hunting(), line);
+        let hunting = self.reception.hunting();
+        let (sending, size) = self.sender.tick(self.choice.mode, hunting, line);
         report.line = size;
         self.say_sending(sending, &mut report);
         // The session's own count; a failure just said has closed it already,
@@ -143,6 +146,11 @@ impl Link {
         line[0] = NAK;
         report.line = 1;
         Ok(report)
+    }
+
+    /// What the opening chose.
+    pub fn choice(&self) -> Choice {
+        self.choice
     }
 
     /// The clock of the frame being received, if one is.
@@ -208,7 +216,7 @@ impl Link {
     }
 
     fn single(&mut self, single: Single, report: &mut Report) {
-        let sending = self.sender.single(single);
+        let sending = self.sender.single(single, self.choice.mode);
         self.say_sending(sending, report);
     }
 

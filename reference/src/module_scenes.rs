@@ -303,7 +303,7 @@ pub fn overfull(scribe: &mut Scribe) {
 
 /// Copies until 1,024 bytes are put out, one fewer or more; each restart
 /// behind them is a byte.
-fn fill(scribe: &mut Scribe) {
+pub fn fill(scribe: &mut Scribe) {
     while scribe.has_room() && scribe.put_out() + 6 <= Direction::MOST {
         scribe.restart();
         let left = (Direction::MOST - scribe.put_out()) as u32;

@@ -23,7 +23,7 @@ const MALFORMED: &[&str] = &[
     "timeouts 10 10 10", "timeouts 1000000000 10", "timeouts 0000000010 10",
     "timeouts 000000010 10", "timeoutsroom", "timeoutsroom 7 10", "timeoutsroom 601 10 10",
     "timeoutsroom 7 10 10", "timeoutsres", "timeoutsres 1", "timeoutsres 01 06 0F 96", "# tick",
-    "#", "", " # tick", "tick # one", "tick;tick", "open", "play", "-", "\u{e9}",
+    "#", "", " # tick", "tick # one", "tick;tick", "opened", "play", "-", "\u{e9}",
 ];
 
 /// Build, with rooms around the frame's size.

@@ -103,6 +103,10 @@ impl<W: Write> Player<W> {
                 self.say(role, answer)
             }
             Call::Ticks(role, number) => self.ticks(role, number),
+            Call::Open(choice) => {
+                self.ends.open_anew(choice);
+                Ok(())
+            }
             Call::Pass => self.pass(),
             Call::Room { line, up } => {
                 self.line.size = line;

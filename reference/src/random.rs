@@ -1,5 +1,6 @@
 //! Random scripts of several kinds, each seeking out its edges.
 
+use crate::mode_scenes::*;
 use crate::module_scenes::*;
 use crate::other_scenes::*;
 use crate::scenes::*;
@@ -254,6 +255,23 @@ pub const KINDS: &[Kind] = &[
             (2, abort_at_loss),
         ],
     },
+    Kind {
+        name: "modes",
+        seeks: "losses, NAKs and CANs on the same ticks in both modes of both ends, and openings",
+        scenes: &[
+            (5, in_a_mode),
+            (4, told_at_the_loss),
+            (8, lost_in_a_frame),
+            (4, abort_on_the_loss),
+            (2, silent_in_a_mode),
+            (2, restart_keeps_the_mode),
+            (3, opened_in_any_state),
+            (1, opened_when_overfull),
+            (1, opened_without_room),
+            (1, slowest),
+            (3, malformed_opening),
+        ],
+    },
 ];
 
 /// The kind of this name.
@@ -266,16 +284,21 @@ pub fn kind(name: &str) -> Option<&'static Kind> {
 pub fn script(seed: u64, kind: &Kind, lines: usize) -> String {
     let mut scribe = Scribe::new(seed);
     scribe.say(&format!("# {} {seed} {lines}", kind.name));
+    go_on(&mut scribe, kind, lines);
+    scribe.into_text()
+}
+
+/// Scenes of a kind until the script has `lines` lines.
+pub fn go_on(scribe: &mut Scribe, kind: &Kind, lines: usize) {
     let weights = kind.scenes.iter().map(|(weight, _)| weight).sum();
     while scribe.lines() < lines {
         let mut place = scribe.dice.below(weights);
         for (weight, scene) in kind.scenes {
             if place < *weight {
-                scene(&mut scribe);
+                scene(scribe);
                 break;
             }
             place -= weight;
         }
     }
-    scribe.into_text()
 }

@@ -2,6 +2,7 @@
 //! lines from whatever state the model link is in, aimed at the edges of one
 //! rule.
 
+use crate::choice::Mode;
 use crate::frame::{ACK, CAN, NAK, REQ, RES, START};
 use crate::link::Link;
 use crate::scribe::{whole, Scribe, SPECIAL};
@@ -203,7 +204,7 @@ pub fn coincide(scribe: &mut Scribe) {
     let mut ends: Vec<u32> = scribe.sender_left().into_iter().collect();
     if let State::Waiting(ticks) = scribe.link().sender_state() {
         let loss = scribe.wait() - u32::from(ticks);
-        ends.extend([100, 1_100, 2_100].map(|back_off| loss + back_off));
+        ends.extend(behind_a_loss(scribe).map(|ticks| loss + ticks));
     }
     ends.extend(scribe.session_left());
     ends.retain(|&end| end >= ABORT);
@@ -225,6 +226,15 @@ pub fn coincide(scribe: &mut Scribe) {
         scribe.ticks(1);
     } else {
         scribe.ticks_near(ABORT, 1);
+    }
+}
+
+/// Ticks from a loss by time to ends that may follow it: of a back-off; or,
+/// where the next copy goes out at once, of its wait and of what follows that.
+fn behind_a_loss(scribe: &Scribe) -> [u32; 3] {
+    match scribe.mode() {
+        Mode::Spaced => [100, 1_100, 2_100],
+        Mode::Sooner => [500, scribe.wait(), scribe.wait() + 500],
     }
 }
 
@@ -464,16 +474,10 @@ fn settle(scribe: &mut Scribe) {
 /// to its failure.
 pub fn silence(scribe: &mut Scribe) {
     scribe.open_some();
-    let wait = scribe.wait();
-    let failed = 4 * wait + 3_300;
-    let ticks = scribe.dice.one(&[
-        wait + 100,
-        2 * wait + 1_200,
-        3 * wait + 3_300,
-        failed - 1,
-        failed,
-        failed + 1,
-    ]);
+    let [second, third, fourth, failed] = scribe.silent_ticks();
+    let ticks = scribe
+        .dice
+        .one(&[second, third, fourth, failed - 1, failed, failed + 1]);
     scribe.ticks(ticks);
     if scribe.dice.once_in(2) {
         session_awaiting(scribe);

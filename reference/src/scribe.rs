@@ -1,13 +1,13 @@
 //! Writes script lines and keeps two ends of its own in step with them, so that
 //! the scenes can aim exactly at the edges of document 01.
 
-use crate::choice::Role;
+use crate::choice::{Mode, Role};
 use crate::dice::Dice;
 use crate::ends::Ends;
 use crate::frame::{self, ACK, CAN, NAK, REQ, RES, START};
 use crate::link::Link;
 use crate::script::{understand, Call, LinkCall, MOST_ROOM};
-use crate::sending::State;
+use crate::sending::{back_off_ticks, Cause, State};
 use crate::session::Session;
 use std::fmt::Write;
 
@@ -134,6 +134,7 @@ impl Scribe {
                     self.make(role, LinkCall::Tick);
                 }
             }
+            Call::Open(choice) => self.ends.open_anew(choice),
             Call::Pass => self.follow_pass(),
             _ => {}
         }
@@ -213,6 +214,19 @@ impl Scribe {
         self.say(&self.at_end("restart"));
     }
 
+    /// Opens the end anew, in this mode.
+    pub fn open(&mut self, mode: Mode) {
+        self.say(&self.at_end(match mode {
+            Mode::Sooner => "opensooner",
+            Mode::Spaced => "openspaced",
+        }));
+    }
+
+    /// Opens the end anew without a choice.
+    pub fn open_plain(&mut self) {
+        self.say(&self.at_end("open"));
+    }
+
     /// Gives each end what the other has put out.
     pub fn pass(&mut self) {
         self.say("pass");
@@ -249,6 +263,22 @@ impl Scribe {
     /// ACK.
     pub fn wait(&self) -> u32 {
         u32::from(self.link().ack_ticks())
+    }
+
+    /// The mode of the end that is written for.
+    pub fn mode(&self) -> Mode {
+        self.link().choice().mode
+    }
+
+    /// Ticks from copy 1 to copies 2, 3 and 4 of the open send, or of the last
+    /// one, and to its failure, where the line stays silent.
+    pub fn silent_ticks(&self) -> [u32; 4] {
+        let mut ticks = 0;
+        [1, 2, 3, 4].map(|copy| {
+            let back_off = back_off_ticks(self.mode(), Cause::Time, copy);
+            ticks += self.wait() + back_off.map_or(0, u32::from);
+            ticks
+        })
     }
 
     /// Ticks to the end of a session that awaits its response.

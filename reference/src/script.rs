@@ -1,7 +1,7 @@
 //! The script of linkplay.md: lines in, calls out.
 
 use crate::bodies::FIXED;
-use crate::choice::Role;
+use crate::choice::{Choice, Mode, Role};
 use crate::frame::MOST_BODY;
 use crate::writers::NodeList;
 use std::io::{self, BufRead};
@@ -36,6 +36,8 @@ pub enum Call<'a> {
     Link(Role, LinkCall<'a>),
     /// So many ticks of an end.
     Ticks(Role, u32),
+    /// A fresh link of an end.
+    Open(Choice),
     Pass,
     Room {
         line: usize,
@@ -192,7 +194,7 @@ pub fn understand<'s>(line: &[u8], store: &'s mut Vec<u8>) -> Option<Call<'s>> {
     let name = words.next()?;
     let mut words = Words { words, store };
     match name {
-        // Only a call on a link stands behind `module`.
+        // Only a call on a link, or its opening, stands behind `module`.
         b"module" => match words.words.next()? {
             name if on_link(name) => link_call(Role::Module, name, words),
             _ => None,
@@ -202,15 +204,24 @@ pub fn understand<'s>(line: &[u8], store: &'s mut Vec<u8>) -> Option<Call<'s>> {
     }
 }
 
-/// Whether the word names a call on a link.
+/// Whether the word names a call on a link or opens one.
 fn on_link(name: &[u8]) -> bool {
-    const NAMES: [&[u8]; 7] = [
-        b"send", b"session", b"byte", b"bytes", b"tick", b"ticks", b"restart",
+    const NAMES: [&[u8]; 10] = [
+        b"send",
+        b"session",
+        b"byte",
+        b"bytes",
+        b"tick",
+        b"ticks",
+        b"restart",
+        b"open",
+        b"opensooner",
+        b"openspaced",
     ];
     NAMES.contains(&name)
 }
 
-/// The calls on the link of an end.
+/// The calls on the link of an end, and its opening.
 fn link_call<'w, 's, I: Iterator<Item = &'w [u8]>>(
     role: Role,
     name: &[u8],
@@ -242,7 +253,24 @@ fn link_call<'w, 's, I: Iterator<Item = &'w [u8]>>(
             let ticks = words.number()?;
             words.end(Call::Ticks(role, ticks))
         }
-        _ => words.end(Call::Link(role, LinkCall::Restart)),
+        b"restart" => words.end(Call::Link(role, LinkCall::Restart)),
+        _ => words.end(Call::Open(opened(role, name)?)),
+    }
+}
+
+/// What a verb that opens an end chooses.
+fn opened(role: Role, name: &[u8]) -> Option<Choice> {
+    match name {
+        b"open" => Some(Choice::without_mode(role)),
+        b"opensooner" => Some(Choice {
+            role,
+            mode: Mode::Sooner,
+        }),
+        b"openspaced" => Some(Choice {
+            role,
+            mode: Mode::Spaced,
+        }),
+        _ => None,
     }
 }
 

@@ -1,6 +1,8 @@
 //! Section 5: sending one frame in up to four copies; with the time that a
-//! copy takes on the wire, as request P2 has it.
+//! copy takes on the wire, as request P2 has it, and the back-offs of the two
+//! modes of request P4.
 
+use crate::choice::Mode;
 use crate::frame::{build, MOST_FRAME};
 use crate::link::Link;
 use crate::reception::Single;
@@ -15,7 +17,7 @@ pub enum State {
     Due,
     /// Ticks since the copy was handed over.
     Waiting(u16),
-    /// Ticks still to go.
+    /// Ticks still to go, never 0.
     BackingOff(u16),
 }
 
@@ -24,6 +26,26 @@ pub enum State {
 /// so a byte takes 1,000/11,520 = 25/288 of a tick.
 pub fn wire_ticks(size: usize) -> u16 {
     (25 * size).div_ceil(288) as u16
+}
+
+/// Why a copy counts as not delivered.
+#[derive(Clone, Copy, Debug, PartialEq, Eq)]
+pub enum Cause {
+    /// The other end said so, with NAK or CAN.
+    Told,
+    /// Its wait is over.
+    Time,
+}
+
+/// The back-off after a copy; there is none after the fourth. After a loss by
+/// time the new mode subtracts the 1,600 ticks waited, and not the time on the
+/// wire before them; a back-off no longer than they are is 0 then.
+pub fn back_off_ticks(mode: Mode, cause: Cause, copy: u8) -> Option<u16> {
+    let whole = *Link::BACK_OFF_TICKS.get(usize::from(copy) - 1)?;
+    match (mode, cause) {
+        (Mode::Sooner, Cause::Time) => Some(whole.saturating_sub(Link::ACK_TICKS)),
+        (Mode::Sooner, Cause::Told) | (Mode::Spaced, _) => Some(whole),
+    }
 }
 
 /// The sending half of the link, with the frame being sent.
@@ -84,38 +106,56 @@ impl Sender {
     }
 
     /// A single byte, heard while hunting.
-    pub fn single(&mut self, single: Single) -> SendingPart {
+    pub fn single(&mut self, single: Single, mode: Mode) -> SendingPart {
         match (self.state, single) {
             (State::Waiting(_), Single::Ack) => {
                 self.state = State::Quiet;
                 SendingPart::Acknowledged(self.copies)
             }
-            (State::Waiting(_), Single::Nak | Single::Can) => self.not_delivered(),
+            (State::Waiting(_), Single::Nak | Single::Can) => {
+                self.not_delivered(back_off_ticks(mode, Cause::Told, self.copies))
+            }
             _ => SendingPart::Stray,
         }
     }
 
     /// One tick, after reception had its own: once, so that a copy put out
     /// now has its wait at 0 and a back-off begun now has all its ticks to go.
-    pub fn tick(&mut self, hunting: bool, line: &mut [u8]) -> (SendingPart, usize) {
+    pub fn tick(&mut self, mode: Mode, hunting: bool, line: &mut [u8]) -> (SendingPart, usize) {
         match self.state {
             State::Quiet => (SendingPart::Nothing, 0),
             State::Due if hunting => self.put_out(line),
             State::Due => (SendingPart::Nothing, 0),
-            State::Waiting(ticks) if ticks + 1 == self.ack_ticks() => (self.not_delivered(), 0),
+            State::Waiting(ticks) if ticks + 1 == self.ack_ticks() => {
+                self.lost(mode, hunting, line)
+            }
             State::Waiting(ticks) => self.stay(State::Waiting(ticks + 1)),
             State::BackingOff(left) if left > 1 => self.stay(State::BackingOff(left - 1)),
-            State::BackingOff(_) if hunting => self.put_out(line),
-            State::BackingOff(_) => {
-                self.state = State::Due;
-                (SendingPart::Due, 0)
-            }
+            State::BackingOff(_) => self.next_copy(hunting, line),
         }
     }
 
     fn stay(&mut self, state: State) -> (SendingPart, usize) {
         self.state = state;
         (SendingPart::Nothing, 0)
+    }
+
+    /// The tick that ends a copy's wait. With a back-off of 0 it is the tick of
+    /// the next copy too, and no back-off is said.
+    fn lost(&mut self, mode: Mode, hunting: bool, line: &mut [u8]) -> (SendingPart, usize) {
+        match back_off_ticks(mode, Cause::Time, self.copies) {
+            Some(0) => self.next_copy(hunting, line),
+            back_off => (self.not_delivered(back_off), 0),
+        }
+    }
+
+    /// The tick of the next copy: it goes out if hunting, else it is due.
+    fn next_copy(&mut self, hunting: bool, line: &mut [u8]) -> (SendingPart, usize) {
+        if hunting {
+            return self.put_out(line);
+        }
+        self.state = State::Due;
+        (SendingPart::Due, 0)
     }
 
     fn put_out(&mut self, line: &mut [u8]) -> (SendingPart, usize) {
@@ -125,11 +165,11 @@ impl Sender {
         (SendingPart::Copy(self.copies), self.size)
     }
 
-    /// NAK, CAN or loss: back off, or give up after the fourth copy. The
-    /// elapsed wait is not subtracted from the back-off.
-    fn not_delivered(&mut self) -> SendingPart {
-        match Link::BACK_OFF_TICKS.get(usize::from(self.copies) - 1) {
-            Some(&ticks) => {
+    /// Backs off, or gives up where there is no back-off any more, after the
+    /// fourth copy.
+    fn not_delivered(&mut self, back_off: Option<u16>) -> SendingPart {
+        match back_off {
+            Some(ticks) => {
                 self.state = State::BackingOff(ticks);
                 SendingPart::BackingOff(ticks)
             }

@@ -58,7 +58,7 @@ pub fn silent_line(scribe: &mut Scribe) {
         free(scribe);
         open_sized(scribe);
         if scribe.dice.once_in(2) {
-            let failed = 4 * scribe.wait() + 3_300;
+            let [.., failed] = scribe.silent_ticks();
             scribe.ticks_near(failed, 1);
         } else {
             not_heard(scribe);
@@ -114,7 +114,7 @@ pub fn abort_at_loss(scribe: &mut Scribe) {
 }
 
 /// Writes a scene for the host or for the stand-in.
-fn at(scribe: &mut Scribe, module: bool, scene: impl FnOnce(&mut Scribe)) {
+pub fn at(scribe: &mut Scribe, module: bool, scene: impl FnOnce(&mut Scribe)) {
     if module {
         scribe.on_stand_in(scene);
     } else {
@@ -122,13 +122,13 @@ fn at(scribe: &mut Scribe, module: bool, scene: impl FnOnce(&mut Scribe)) {
     }
 }
 
-fn at_either_end(scribe: &mut Scribe, scene: impl FnOnce(&mut Scribe)) {
+pub fn at_either_end(scribe: &mut Scribe, scene: impl FnOnce(&mut Scribe)) {
     let module = scribe.dice.once_in(2);
     at(scribe, module, scene);
 }
 
 /// Brings the end to hunt with nothing open, from whatever state.
-fn free(scribe: &mut Scribe) {
+pub fn free(scribe: &mut Scribe) {
     if !scribe.hunting() {
         scribe.ticks(u32::from(Link::FRAME_TICKS) + 1);
     }
@@ -148,7 +148,7 @@ fn free(scribe: &mut Scribe) {
 }
 
 /// Opens a send or session whose frame has one of the sizes.
-fn open_sized(scribe: &mut Scribe) {
+pub fn open_sized(scribe: &mut Scribe) {
     let command = scribe.command();
     let size = scribe.dice.one(&SIZES);
     let parameters = scribe.parameters_of(size - 5);
@@ -160,7 +160,7 @@ fn open_sized(scribe: &mut Scribe) {
 }
 
 /// Copies that are refused at once or lost, so that a later one waits.
-fn not_delivered(scribe: &mut Scribe, number: u32) {
+pub fn not_delivered(scribe: &mut Scribe, number: u32) {
     for _ in 0..number {
         if scribe.dice.once_in(3) {
             let wait = scribe.wait();
@@ -177,11 +177,11 @@ fn not_delivered(scribe: &mut Scribe, number: u32) {
 
 /// Ticks to the last on which an ACK counts, to the next, which loses the copy,
 /// or to one beside these.
-fn to_loss(scribe: &mut Scribe) {
+pub fn to_loss(scribe: &mut Scribe) {
     if let State::Waiting(ticks) = scribe.link().sender_state() {
         let left = scribe.wait() - u32::from(ticks);
         let around = scribe.dice.one(&[0, 1, 1, 1, 2, 2, 3]);
-        scribe.ticks(left + around - 2);
+        scribe.ticks((left + around).saturating_sub(2));
     }
 }
 
@@ -194,7 +194,7 @@ fn answer(scribe: &mut Scribe) {
 
 /// Now and then the response that a session awaits since a late ACK, at once
 /// or about when it is too late.
-fn respond(scribe: &mut Scribe) {
+pub fn respond(scribe: &mut Scribe) {
     let Some(left) = scribe.session_left() else {
         return;
     };

@@ -44,6 +44,7 @@ fn kinds_and_random() {
     let kinds: Vec<&str> = kinds.lines().collect();
     assert!(kinds.contains(&"mixed") && kinds.len() >= 17);
     assert!(kinds.contains(&"module") && kinds.contains(&"writers"));
+    assert!(kinds.contains(&"wire") && kinds.last() == Some(&"modes"));
     for kind in kinds {
         let (code, text) = run(&["random", "5", kind, "50"], b"");
         assert_eq!(code, Some(0));

@@ -4,6 +4,7 @@
 mod common;
 
 use common::*;
+use reference::choice::{Mode, Role};
 use reference::link::Link;
 use reference::refusal::Refusal;
 
@@ -14,6 +15,13 @@ fn nothing() -> Said {
 /// A link that waits for the ACK of REQ 07.
 fn waiting() -> Bench {
     let mut bench = Bench::new();
+    bench.send(0, 7, &[]).unwrap();
+    bench
+}
+
+/// The same in the old mode.
+fn waiting_spaced() -> Bench {
+    let mut bench = Bench::spaced();
     bench.send(0, 7, &[]).unwrap();
     bench
 }
@@ -121,15 +129,19 @@ fn only_a_right_checksum_or_a_restart_ends_the_run_of_bad_sums() {
 
 #[test]
 fn an_abort_a_send_and_its_failure_leave_the_run_of_bad_sums() {
-    let mut bench = Bench::new();
-    bench.bytes(&BAD_07);
-    bench.bytes(&BAD_07);
-    bench.byte(1);
-    assert_eq!(bench.ticks(1_501).len(), 1);
-    bench.send(0, 7, &[]).unwrap();
-    bench.ticks(9_704);
-    let third = says(rx("badsum"), tx("sums"), &[0x15], &[]);
-    assert_eq!(bench.bytes(&BAD_07), third);
+    for (mode, failed) in [(Mode::Spaced, 9_704), (Mode::Sooner, 6_904)] {
+        let mut bench = Bench::of(choice(Role::Host, mode));
+        bench.bytes(&BAD_07);
+        bench.bytes(&BAD_07);
+        bench.byte(1);
+        assert_eq!(bench.ticks(1_501).len(), 1);
+        bench.send(0, 7, &[]).unwrap();
+        let (_, last) = bench.ticks(failed).pop().unwrap();
+        let expected = says(rx("nothing"), tx("failed:4 delivery"), &[], &[]);
+        assert_eq!(last, expected);
+        let third = says(rx("badsum"), tx("sums"), &[0x15], &[]);
+        assert_eq!(bench.bytes(&BAD_07), third);
+    }
 }
 
 #[test]
@@ -202,16 +214,25 @@ fn the_longest_copy_goes_out_behind_the_answer() {
 
 #[test]
 fn a_due_copy_put_out_by_an_abort_has_its_wait_at_0() {
-    let mut bench = Bench::new();
-    bench.byte(1);
-    bench.send(0, 7, &[]).unwrap();
-    bench.quiet_ticks(1_500);
-    assert_eq!(bench.tick(), says(rx("abort"), tx("copy:1"), &REQ_07, &[]));
-    bench.quiet_ticks(1_600);
-    assert_eq!(
-        bench.tick(),
-        says(rx("nothing"), tx("backoff:100"), &[], &[])
-    );
+    let lost = [
+        (
+            Mode::Spaced,
+            says(rx("nothing"), tx("backoff:100"), &[], &[]),
+        ),
+        (
+            Mode::Sooner,
+            says(rx("nothing"), tx("copy:2"), &REQ_07, &[]),
+        ),
+    ];
+    for (mode, lost) in lost {
+        let mut bench = Bench::of(choice(Role::Host, mode));
+        bench.byte(1);
+        bench.send(0, 7, &[]).unwrap();
+        bench.quiet_ticks(1_500);
+        assert_eq!(bench.tick(), says(rx("abort"), tx("copy:1"), &REQ_07, &[]));
+        bench.quiet_ticks(1_600);
+        assert_eq!(bench.tick(), lost);
+    }
 }
 
 /// A due copy means that a frame is being received, where no byte has a special
@@ -278,7 +299,7 @@ fn an_abort_on_the_tick_that_ends_a_back_off() {
 #[test]
 fn an_abort_on_the_tick_of_a_loss() {
     // The frame begins 1,501 ticks before the loss at 1,601.
-    let mut bench = waiting();
+    let mut bench = waiting_spaced();
     bench.quiet_ticks(100);
     bench.byte(1);
     bench.quiet_ticks(1_500);
@@ -290,17 +311,38 @@ fn an_abort_on_the_tick_of_a_loss() {
     );
 }
 
+/// Reception has its part of the tick first, so the line is free for copy 2.
 #[test]
-fn an_abort_on_the_tick_of_a_failure() {
-    let mut bench = Bench::new();
-    bench.session(7, &[]).unwrap();
-    bench.ticks(8_103);
+fn an_abort_on_the_tick_of_a_loss_lets_the_next_copy_go_out_in_the_new_mode() {
+    let mut bench = waiting();
     bench.quiet_ticks(100);
     bench.byte(1);
     bench.quiet_ticks(1_500);
-    let expected = says(rx("abort"), tx("failed:4 notsent:4 delivery"), &[], &[]);
-    assert_eq!(bench.tick(), expected);
-    assert_eq!(bench.ticks, 9_704);
+    assert_eq!(bench.tick(), says(rx("abort"), tx("copy:2"), &REQ_07, &[]));
+    // Its wait is at 0 after that tick.
+    bench.quiet_ticks(1_600);
+    let mut other = bench.other();
+    assert_eq!(other.byte(6), says(rx("nothing"), tx("acked:2"), &[], &[]));
+    assert_eq!(
+        bench.tick(),
+        says(rx("nothing"), tx("copy:3"), &REQ_07, &[])
+    );
+}
+
+#[test]
+fn an_abort_on_the_tick_of_a_failure() {
+    // The ticks of copy 4 and of the failure.
+    for (mode, fourth, failed) in [(Mode::Spaced, 8_103, 9_704), (Mode::Sooner, 5_303, 6_904)] {
+        let mut bench = Bench::of(choice(Role::Host, mode));
+        bench.session(7, &[]).unwrap();
+        bench.ticks(fourth);
+        bench.quiet_ticks(100);
+        bench.byte(1);
+        bench.quiet_ticks(1_500);
+        let expected = says(rx("abort"), tx("failed:4 notsent:4 delivery"), &[], &[]);
+        assert_eq!(bench.tick(), expected);
+        assert_eq!(bench.ticks, failed);
+    }
 }
 
 #[test]
@@ -317,7 +359,7 @@ fn an_abort_on_the_tick_that_ends_a_session() {
 
 #[test]
 fn a_loss_inside_a_frame_and_an_answer_behind_it() {
-    let mut bench = waiting();
+    let mut bench = waiting_spaced();
     bench.quiet_ticks(1_600);
     bench.byte(1);
     assert_eq!(
@@ -331,6 +373,19 @@ fn a_loss_inside_a_frame_and_an_answer_behind_it() {
         bench.tick(),
         says(rx("nothing"), tx("copy:2"), &REQ_07, &[])
     );
+}
+
+#[test]
+fn a_copy_lost_inside_a_frame_is_due_again_in_the_new_mode() {
+    let mut bench = waiting();
+    bench.quiet_ticks(1_600);
+    bench.byte(1);
+    assert_eq!(bench.tick(), says(rx("nothing"), tx("due"), &[], &[]));
+    let line = [&[6][..], &REQ_07].concat();
+    let said = bench.bytes(&REQ_07[1..]);
+    assert_eq!(said, says(rx("frame"), tx("copy:2"), &line, &[0, 7]));
+    bench.quiet_ticks(1_600);
+    assert_eq!(bench.byte(6), says(rx("nothing"), tx("acked:2"), &[], &[]));
 }
 
 #[test]
@@ -362,28 +417,42 @@ fn copies_are_counted_in_every_acknowledgement() {
 }
 
 /// Copies at the times that arithmetic gives for any answers: after copy k,
-/// refused after d ticks (1,601 if not), copy k + 1 comes d + back-off later.
+/// refused after d ticks or lost after 1,601, copy k + 1 comes a back-off later:
+/// the one of its cause, in the mode of the link.
 #[test]
 fn copies_come_when_arithmetic_says() {
     let mut dice = reference::dice::Dice::new(5);
-    for _ in 0..60 {
-        let mut bench = waiting();
-        let mut at = 0;
-        for (number, back_off) in [100, 1_100, 2_100].into_iter().enumerate() {
-            let edge = dice.one(&[0, 1, 1_599, 1_600, 1_601]);
-            let any = dice.between(0, 1_601);
-            let refused = dice.one(&[edge, any]);
-            if refused < 1_601 {
-                bench.quiet_ticks(refused);
-                bench.byte(dice.one(&[0x15, 0x18]));
-            } else {
-                assert_eq!(bench.ticks(1_601).len(), 1);
+    let back_offs = [
+        (Mode::Spaced, [(100, 100), (1_100, 1_100), (2_100, 2_100)]),
+        (Mode::Sooner, [(100, 0), (1_100, 0), (2_100, 500)]),
+    ];
+    for (mode, back_offs) in back_offs {
+        for _ in 0..60 {
+            let mut bench = Bench::of(choice(Role::Host, mode));
+            bench.send(0, 7, &[]).unwrap();
+            let mut at = 0;
+            for (number, (told, lost)) in back_offs.into_iter().enumerate() {
+                let edge = dice.one(&[0, 1, 1_599, 1_600, 1_601]);
+                let any = dice.between(0, 1_601);
+                let refused = dice.one(&[edge, any]);
+                let single = dice.one(&[0x15, 0x18]);
+                let back_off = if refused < 1_601 {
+                    bench.quiet_ticks(refused);
+                    bench.byte(single);
+                    told
+                } else {
+                    bench.quiet_ticks(1_600);
+                    if lost > 0 {
+                        assert_eq!(bench.ticks(1).len(), 1);
+                    }
+                    lost
+                };
+                at += refused + back_off;
+                bench.quiet_ticks(at - bench.ticks - 1);
+                let words = format!("copy:{}", number + 2);
+                assert_eq!(bench.tick(), says(rx("nothing"), tx(&words), &REQ_07, &[]));
+                assert_eq!(bench.ticks, at);
             }
-            bench.quiet_ticks(back_off - 1);
-            let words = format!("copy:{}", number + 2);
-            assert_eq!(bench.tick(), says(rx("nothing"), tx(&words), &REQ_07, &[]));
-            at += refused + back_off;
-            assert_eq!(bench.ticks, at);
         }
     }
 }
@@ -496,12 +565,14 @@ fn a_response_while_a_plain_send_is_open_is_stray() {
 
 #[test]
 fn a_session_that_is_not_sent() {
-    let mut bench = Bench::new();
-    bench.session(7, &[]).unwrap();
-    let said = bench.ticks(9_704).pop().unwrap();
-    let expected = says(rx("nothing"), tx("failed:4 notsent:4 delivery"), &[], &[]);
-    assert_eq!(said, (9_704, expected));
-    assert!(bench.session(7, &[]).is_ok());
+    for (mode, failed) in [(Mode::Spaced, 9_704), (Mode::Sooner, 6_904)] {
+        let mut bench = Bench::of(choice(Role::Host, mode));
+        bench.session(7, &[]).unwrap();
+        let said = bench.ticks(failed).pop().unwrap();
+        let expected = says(rx("nothing"), tx("failed:4 notsent:4 delivery"), &[], &[]);
+        assert_eq!(said, (failed, expected));
+        assert!(bench.session(7, &[]).is_ok());
+    }
 }
 
 #[test]

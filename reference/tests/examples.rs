@@ -4,6 +4,7 @@ mod common;
 
 use common::*;
 use reference::bodies::{nodes, set_timeouts, Milliseconds, TenMillisecondTicks};
+use reference::choice::{Mode, Role};
 use reference::frame::{build, read};
 use reference::refusal::Refusal;
 
@@ -64,15 +65,17 @@ fn tick_1501_aborts() {
 
 #[test]
 fn ack_after_1600_ticks() {
-    let mut bench = Bench::new();
-    bench.send(0, 7, &[]).unwrap();
-    bench.quiet_ticks(1_600);
-    assert_eq!(bench.byte(6), says(rx("nothing"), tx("acked:1"), &[], &[]));
+    for mode in [Mode::Sooner, Mode::Spaced] {
+        let mut bench = Bench::of(choice(Role::Host, mode));
+        bench.send(0, 7, &[]).unwrap();
+        bench.quiet_ticks(1_600);
+        assert_eq!(bench.byte(6), says(rx("nothing"), tx("acked:1"), &[], &[]));
+    }
 }
 
 #[test]
 fn ack_after_1601_ticks_is_stray() {
-    let mut bench = Bench::new();
+    let mut bench = Bench::spaced();
     bench.send(0, 7, &[]).unwrap();
     bench.quiet_ticks(1_600);
     assert_eq!(
@@ -88,9 +91,24 @@ fn ack_after_1601_ticks_is_stray() {
     assert_eq!(bench.ticks, 1_701);
 }
 
+/// In the new mode copy 2 is out by then, and the ACK is to it.
+#[test]
+fn ack_after_1601_ticks_is_to_copy_2_in_the_new_mode() {
+    let mut bench = Bench::new();
+    bench.send(0, 7, &[]).unwrap();
+    bench.quiet_ticks(1_600);
+    assert_eq!(
+        bench.tick(),
+        says(rx("nothing"), tx("copy:2"), &REQ_07, &[])
+    );
+    assert_eq!(bench.ticks, 1_601);
+    assert_eq!(bench.byte(6), says(rx("nothing"), tx("acked:2"), &[], &[]));
+}
+
+/// Document 01's case, which names the old mode.
 #[test]
 fn silence() {
-    let mut bench = Bench::new();
+    let mut bench = Bench::spaced();
     let first = bench.send(0, 7, &[]).unwrap();
     assert_eq!(first, says(rx("nothing"), tx("copy:1"), &REQ_07, &[]));
     let nothing = rx("nothing");
@@ -109,9 +127,33 @@ fn silence() {
 }
 
 #[test]
+fn silence_in_the_new_mode() {
+    let mut bench = Bench::new();
+    let first = bench.send(0, 7, &[]).unwrap();
+    assert_eq!(first, says(rx("nothing"), tx("copy:1"), &REQ_07, &[]));
+    let nothing = rx("nothing");
+    assert_eq!(
+        bench.ticks(20_000),
+        vec![
+            (1_601, says(nothing, tx("copy:2"), &REQ_07, &[])),
+            (3_202, says(nothing, tx("copy:3"), &REQ_07, &[])),
+            (4_803, says(nothing, tx("backoff:500"), &[], &[])),
+            (5_303, says(nothing, tx("copy:4"), &REQ_07, &[])),
+            (6_904, says(nothing, tx("failed:4 delivery"), &[], &[])),
+        ]
+    );
+}
+
+/// In both modes.
+#[test]
 fn nak_straight_after_every_copy() {
-    for single in [0x15, 0x18] {
-        let mut bench = Bench::new();
+    for (single, mode) in [
+        (0x15, Mode::Sooner),
+        (0x15, Mode::Spaced),
+        (0x18, Mode::Sooner),
+        (0x18, Mode::Spaced),
+    ] {
+        let mut bench = Bench::of(choice(Role::Host, mode));
         bench.send(0, 7, &[]).unwrap();
         for (number, (back_off, at)) in [(100, 100), (1_100, 1_200), (2_100, 3_300)]
             .into_iter()

@@ -4,10 +4,10 @@
 mod common;
 
 use common::{called, played, wire};
-use reference::choice::{Choice, Role};
+use reference::choice::{Choice, Mode, Role};
 use reference::dice::Dice;
 use reference::link::Link;
-use reference::random::{kind, script, KINDS};
+use reference::random::{go_on, kind, script, KINDS};
 use reference::scribe::Scribe;
 use reference::script::{understand, Call, LinkCall};
 use reference::stream::{stream, STREAMS};
@@ -56,7 +56,10 @@ fn no_call_spills_and_few_lines_are_errors() {
         let lines = played(&script(3, kind, 1_500));
         assert!(!lines.iter().any(|line| line.contains("SPILL")));
         let errors = lines.iter().filter(|line| *line == "error").count();
-        let may = matches!(kind.name, "malformed" | "mixed" | "module" | "writers");
+        let may = matches!(
+            kind.name,
+            "malformed" | "mixed" | "module" | "writers" | "modes"
+        );
         assert!(may || errors == 0, "{} {errors}", kind.name);
     }
 }
@@ -79,15 +82,18 @@ fn the_model_keeps_step() {
                 let end = scribe.ends().of(role);
                 let place = role as usize;
                 assert_eq!(end.link(), &model.links[place], "{}", kind.name);
+                assert_eq!(end.ticks(), model.ticks[place], "{}", kind.name);
                 assert_eq!(end.out().bytes(), model.put_out[place], "{}", kind.name);
             }
         }
     }
 }
 
-/// Both links and what they put out since the last pass, the host first.
+/// Both links, their ticks since they were opened, and what they put out since
+/// the last pass, the host first.
 struct Model {
     links: [Link; 2],
+    ticks: [u64; 2],
     put_out: [Vec<u8>; 2],
     rooms: (usize, usize),
 }
@@ -96,6 +102,7 @@ impl Model {
     fn new() -> Model {
         Model {
             links: [Choice::HOST, Choice::MODULE].map(Link::open_as),
+            ticks: [0, 0],
             put_out: [vec![], vec![]],
             rooms: (258, 254),
         }
@@ -112,6 +119,12 @@ impl Model {
                     self.call(role as usize, LinkCall::Tick);
                 }
             }
+            Some(Call::Open(choice)) => {
+                let place = choice.role as usize;
+                self.links[place] = Link::open_as(choice);
+                self.ticks[place] = 0;
+                self.put_out[place].clear();
+            }
             Some(Call::Pass) => {
                 let [from_host, from_module] = std::mem::take(&mut self.put_out);
                 self.give(1, from_host);
@@ -126,6 +139,7 @@ impl Model {
         let (mut line, mut up) = ([0; 600], [0; 600]);
         let (line, up) = (&mut line[..self.rooms.0], &mut up[..self.rooms.1]);
         let (taken, report) = called(&mut self.links[place], call, line, up).ok()?;
+        self.ticks[place] += u64::from(call == LinkCall::Tick);
         let put_out = &mut self.put_out[place];
         if put_out.len() + report.line <= 1_024 {
             put_out.extend(&line[..report.line]);
@@ -145,18 +159,42 @@ impl Model {
 
 /// The lines of several scripts of a kind.
 fn lines_of(name: &str) -> Vec<String> {
+    lines_in(Mode::Sooner, name)
+}
+
+/// The same in a mode.
+fn lines_in(mode: Mode, name: &str) -> Vec<String> {
+    lines_from(mode, name, 4)
+}
+
+/// The lines of so many scripts of a kind in a mode, by which the scenes go.
+/// The new mode is that of a play where nothing is said.
+fn lines_from(mode: Mode, name: &str, seeds: u64) -> Vec<String> {
     let kind = kind(name).unwrap();
-    (1..=4)
-        .flat_map(|seed| played(&script(seed, kind, 2_500)))
-        .collect()
+    let lines = |seed| match mode {
+        Mode::Sooner => played(&script(seed, kind, 2_500)),
+        Mode::Spaced => {
+            let mut scribe = Scribe::new(seed);
+            scribe.say("openspaced");
+            scribe.say("module openspaced");
+            go_on(&mut scribe, kind, 2_500);
+            played(scribe.text())
+        }
+    };
+    (1..=seeds).flat_map(lines).collect()
 }
 
 /// Each of these must stand in a line of that kind.
 fn reaches(name: &str, edges: &[&str]) {
-    let lines = lines_of(name);
+    reaches_in(Mode::Sooner, name, edges);
+}
+
+/// The same in a mode.
+fn reaches_in(mode: Mode, name: &str, edges: &[&str]) {
+    let lines = lines_in(mode, name);
     for edge in edges {
         let found = lines.iter().filter(|line| line.contains(edge)).count();
-        assert!(found >= 3, "{name}: {edge} {found}");
+        assert!(found >= 3, "{name} {mode:?}: {edge} {found}");
     }
 }
 
@@ -206,16 +244,30 @@ fn aborts_coincide_with_every_other_end() {
         "rx=abort tx=copy:4",
         "rx=abort tx=nothing session=noresponse",
     ];
-    reaches("coincidences", &edges);
+    reaches_in(Mode::Spaced, "coincidences", &edges);
+    // In the new mode the next copy goes out on the tick of the loss.
+    let edges = [
+        "rx=abort tx=copy:2",
+        "rx=abort tx=copy:3",
+        "rx=abort tx=backoff:500",
+        "rx=abort tx=failed:4 session=nothing",
+        "rx=abort tx=failed:4 session=notsent:4",
+        "rx=abort tx=copy:4",
+        "rx=abort tx=nothing session=noresponse",
+    ];
+    reaches_in(Mode::Sooner, "coincidences", &edges);
 }
 
 #[test]
 fn sends_and_sessions_end_in_every_way() {
-    reaches(
-        "answers",
-        &["tx=stray", "tx=acked:4", "tx=failed:4", "tx=backoff:2100"],
-    );
-    reaches("silence", &["tx=failed:4", "session=noresponse:"]);
+    for mode in [Mode::Sooner, Mode::Spaced] {
+        reaches_in(
+            mode,
+            "answers",
+            &["tx=stray", "tx=acked:4", "tx=failed:4", "tx=backoff:2100"],
+        );
+        reaches_in(mode, "silence", &["tx=failed:4", "session=noresponse:"]);
+    }
     reaches(
         "restarts",
         &[
@@ -276,14 +328,24 @@ fn bodies_are_taken_and_refused_for_every_cause() {
     }
 }
 
-/// A copy that an end put out last: on which tick, its number, its size, and
-/// the byte before it in the same call.
+/// A copy that an end put out last: on which tick, its number, its size, the
+/// byte before it in the same call, and whether it went out on the tick that
+/// lost the copy before it.
 #[derive(Clone, Copy, Default)]
 struct Sent {
     at: i64,
     number: u32,
     size: usize,
     behind: Option<u8>,
+    at_loss: bool,
+}
+
+impl Sent {
+    /// How late a tick is: 0 on the one that makes the copy's wait 1,600 and
+    /// its time on the wire, -1 on the tick before.
+    fn late(&self, at: i64) -> i64 {
+        at - self.at - 1_600 - i64::from(wire(self.size))
+    }
 }
 
 /// A part of a line.
@@ -302,12 +364,12 @@ fn sent(line: &str, at: i64) -> Option<Sent> {
         number,
         size: out.len() / 2 - usize::from(behind.is_some()),
         behind,
+        at_loss: false,
     })
 }
 
 /// Shows each line that tells of a report, with the last copy of its end and
-/// how late it is: 0 on the tick that makes the copy's wait 1,600 and its time
-/// on the wire, -1 on the tick before.
+/// how late it is.
 fn each_wait(lines: &[String], mut look: impl FnMut(&str, bool, Sent, i64)) {
     let mut copies = [Sent::default(); 2];
     for line in lines {
@@ -318,11 +380,11 @@ fn each_wait(lines: &[String], mut look: impl FnMut(&str, bool, Sent, i64)) {
         let module = line.starts_with("module ");
         let copy = &mut copies[usize::from(module)];
         if copy.number > 0 {
-            let wait = 1_600 + i64::from(wire(copy.size));
-            look(line, module, *copy, at - copy.at - wait);
+            look(line, module, *copy, copy.late(at));
         }
         if let Some(sent) = sent(line, at) {
-            *copy = sent;
+            let at_loss = copy.number > 0 && copy.late(at) == 0 && sent.number > 1;
+            *copy = Sent { at_loss, ..sent };
         }
     }
 }
@@ -332,7 +394,7 @@ fn each_wait(lines: &[String], mut look: impl FnMut(&str, bool, Sent, i64)) {
 fn answers_come_on_the_last_tick_of_a_wait_and_on_the_next() {
     let mut acked = HashSet::new();
     let mut refused = HashSet::new();
-    each_wait(&lines_of("answers"), |line, _, _, late| {
+    each_wait(&lines_in(Mode::Spaced, "answers"), |line, _, _, late| {
         if line.contains("tx=acked:") {
             acked.insert(late);
         } else if line.contains("tx=backoff:") {
@@ -343,6 +405,42 @@ fn answers_come_on_the_last_tick_of_a_wait_and_on_the_next() {
     assert!(refused.contains(&-1) && refused.contains(&0));
     assert!(acked.iter().chain(&refused).all(|&late| late <= 0));
     assert!(!acked.contains(&0));
+}
+
+/// In the new mode an answer on the tick of a loss is to the copy that went out
+/// on it.
+#[test]
+fn answers_come_on_the_last_tick_of_a_wait_and_on_the_next_in_the_new_mode() {
+    let (mut acked, mut refused) = (HashSet::new(), HashSet::new());
+    let (mut lost, mut after) = (HashSet::new(), HashSet::new());
+    each_wait(&lines_of("answers"), |line, _, copy, late| {
+        let word = part(line, "tx=").unwrap();
+        let tick = line.starts_with("tick ");
+        if tick && late == 0 {
+            lost.insert(word.to_string());
+        } else if word.starts_with("acked:") {
+            acked.insert(late);
+        } else if word.starts_with("backoff:") {
+            refused.insert(late);
+        }
+        let elapsed = late + 1_600 + i64::from(wire(copy.size));
+        if !tick && copy.at_loss && elapsed < 2 {
+            let (word, _) = word.split_once(':').unwrap_or((word, ""));
+            after.insert((word.to_string(), elapsed));
+        }
+    });
+    assert!(acked.contains(&-2) && acked.contains(&-1));
+    assert!(refused.contains(&-2) && refused.contains(&-1));
+    assert!(acked.iter().chain(&refused).all(|&late| late < 0));
+    for word in ["copy:2", "copy:3", "backoff:500", "failed:4"] {
+        assert!(lost.contains(word), "{word}");
+    }
+    for word in ["acked", "backoff"] {
+        for elapsed in [0, 1] {
+            let met = (word.to_string(), elapsed);
+            assert!(after.contains(&met), "{met:?}");
+        }
+    }
 }
 
 #[test]
@@ -397,13 +495,23 @@ fn a_stand_in_meets_every_end_in_every_state() {
 }
 
 /// How late a frame came that a stand-in cancelled, and one that was handed up
-/// because the copy had been lost.
+/// because the copy had been lost: inside that frame, where a back-off began or
+/// the next copy was due at once.
 #[test]
 fn checksums_come_on_the_last_tick_of_a_wait_and_on_the_next() {
-    for name in ["module", "wire"] {
+    for (name, mode) in [
+        ("module", Mode::Spaced),
+        ("wire", Mode::Spaced),
+        ("module", Mode::Sooner),
+        ("wire", Mode::Sooner),
+    ] {
+        let word = match mode {
+            Mode::Spaced => "tx=backoff:",
+            Mode::Sooner => "tx=due",
+        };
         let mut lost = false;
         let (mut cancelled, mut taken) = (HashSet::new(), HashSet::new());
-        each_wait(&lines_of(name), |line, module, _, late| {
+        each_wait(&lines_in(mode, name), |line, module, _, late| {
             if !module {
                 return;
             }
@@ -414,13 +522,13 @@ fn checksums_come_on_the_last_tick_of_a_wait_and_on_the_next() {
             }
             if line.contains("tx=copy:") {
                 lost = false;
-            } else if line.contains("tx=backoff:") {
+            } else if line.contains(word) {
                 lost = late == 0;
             }
         });
         assert!(cancelled.contains(&-2) && cancelled.contains(&-1));
         assert!(cancelled.iter().all(|&late| late < 0));
-        assert!(taken.contains(&0) && taken.contains(&1));
+        assert!(taken.contains(&0) && taken.contains(&1), "{name} {mode:?}");
     }
 }
 
@@ -440,6 +548,7 @@ fn checksums_come_straight_after_a_copy() {
 const SIZES: [usize; 14] = [5, 11, 12, 23, 24, 34, 35, 103, 104, 241, 242, 253, 254, 257];
 
 /// What an end said of a copy, and how late.
+#[derive(Clone, Copy)]
 struct Met {
     word: &'static str,
     late: i64,
@@ -447,11 +556,18 @@ struct Met {
     copy: Sent,
 }
 
-/// What is met in the lines of the kind `wire`.
-fn met_on_the_wire() -> Vec<Met> {
-    let words = ["tx=acked:", "tx=backoff:", "tx=failed:", "tx=stray"];
+/// What is met in the lines of the kind `wire`, in a mode.
+fn met_on_the_wire(mode: Mode) -> Vec<Met> {
+    let words = [
+        "tx=acked:",
+        "tx=backoff:",
+        "tx=failed:",
+        "tx=stray",
+        "tx=copy:",
+        "tx=due",
+    ];
     let mut all = Vec::new();
-    each_wait(&lines_of("wire"), |line, module, copy, late| {
+    each_wait(&lines_from(mode, "wire", 12), |line, module, copy, late| {
         for word in words.into_iter().filter(|word| line.contains(word)) {
             all.push(Met {
                 word,
@@ -472,9 +588,18 @@ fn meets(all: &[Met], word: &str, late: i64, such: impl Fn(&Met) -> bool, of: &s
     assert!(found, "{word} {late} {of}");
 }
 
+/// What the tick of a copy's loss says, for a line that is free.
+fn lost_word(mode: Mode, number: u32) -> &'static str {
+    match (mode, number) {
+        (_, 4) => "tx=failed:",
+        (Mode::Sooner, 1..=2) => "tx=copy:",
+        _ => "tx=backoff:",
+    }
+}
+
 #[test]
 fn each_size_is_answered_on_the_last_tick_of_its_wait_and_on_the_next() {
-    let all = met_on_the_wire();
+    let all = met_on_the_wire(Mode::Spaced);
     for size in SIZES {
         let of = format!("of {size} bytes");
         for module in [false, true] {
@@ -492,21 +617,45 @@ fn each_size_is_answered_on_the_last_tick_of_its_wait_and_on_the_next() {
     assert!(all.iter().filter(acked).all(|met| met.late < 0));
 }
 
+/// In the new mode the copy that goes out on the tick of the loss is answered
+/// on it and on the next.
+#[test]
+fn each_size_is_lost_and_its_next_copy_answered_at_once_in_the_new_mode() {
+    let all = met_on_the_wire(Mode::Sooner);
+    for size in SIZES {
+        let of = format!("of {size} bytes");
+        for module in [false, true] {
+            let such = |met: &Met| met.copy.size == size && met.module == module;
+            meets(&all, "tx=acked:", -1, such, &of);
+            meets(&all, "tx=copy:", 0, such, &of);
+        }
+        let such = |met: &Met| met.copy.size == size;
+        meets(&all, "tx=acked:", -2, such, &of);
+        let such = |met: &Met| met.copy.size == size && met.copy.at_loss;
+        let first = -1_600 - i64::from(wire(size));
+        meets(&all, "tx=acked:", first, such, &of);
+        meets(&all, "tx=acked:", first + 1, such, &of);
+    }
+    let acked = |met: &&Met| met.word == "tx=acked:";
+    assert!(all.iter().filter(acked).all(|met| met.late < 0));
+}
+
 #[test]
 fn each_copy_is_answered_on_the_last_tick_of_its_wait_and_lost_on_the_next() {
-    let all = met_on_the_wire();
-    for number in 1..=4 {
-        let of = format!("of copy {number}");
-        let lost = if number == 4 {
-            "tx=failed:"
-        } else {
-            "tx=backoff:"
-        };
-        for module in [false, true] {
-            let such = |met: &Met| met.copy.number == number && met.module == module;
-            meets(&all, "tx=acked:", -1, such, &of);
-            meets(&all, lost, 0, such, &of);
-            meets(&all, "tx=stray", 0, such, &of);
+    for mode in [Mode::Spaced, Mode::Sooner] {
+        let all = met_on_the_wire(mode);
+        for number in 1..=4 {
+            let of = format!("of copy {number}, {mode:?}");
+            let lost = lost_word(mode, number);
+            for module in [false, true] {
+                let such = |met: &Met| met.copy.number == number && met.module == module;
+                meets(&all, "tx=acked:", -1, such, &of);
+                meets(&all, lost, 0, such, &of);
+                // Where no copy goes out, a byte on the tick of the loss is stray.
+                if lost != "tx=copy:" {
+                    meets(&all, "tx=stray", 0, such, &of);
+                }
+            }
         }
     }
 }
@@ -514,32 +663,36 @@ fn each_copy_is_answered_on_the_last_tick_of_its_wait_and_lost_on_the_next() {
 /// Where a byte more would take a tick more, too.
 #[test]
 fn copies_wait_behind_a_06_and_behind_a_15() {
-    let all = met_on_the_wire();
-    for answer in [0x06, 0x15] {
-        let of = format!("behind {answer:02X}");
-        for module in [false, true] {
-            let such = |met: &Met| met.copy.behind == Some(answer) && met.module == module;
-            meets(&all, "tx=acked:", -1, such, &of);
-            meets(&all, "tx=backoff:", 0, such, &of);
-            meets(&all, "tx=stray", 0, such, &of);
+    for mode in [Mode::Spaced, Mode::Sooner] {
+        let all = met_on_the_wire(mode);
+        let lost = lost_word(mode, 1);
+        for answer in [0x06, 0x15] {
+            let of = format!("behind {answer:02X}, {mode:?}");
+            for module in [false, true] {
+                let such = |met: &Met| met.copy.behind == Some(answer) && met.module == module;
+                meets(&all, "tx=acked:", -1, such, &of);
+                meets(&all, lost, 0, such, &of);
+                meets(&all, "tx=stray", 0, such, &of);
+            }
         }
-    }
-    for size in [11, 23, 34, 103, 241, 253] {
-        let of = format!("behind 06, of {size} bytes");
-        let such = |met: &Met| met.copy.behind == Some(0x06) && met.copy.size == size;
+        for size in [11, 23, 34, 103, 241, 253] {
+            let of = format!("behind 06, of {size} bytes, {mode:?}");
+            let such = |met: &Met| met.copy.behind == Some(0x06) && met.copy.size == size;
+            meets(&all, "tx=acked:", -1, such, &of);
+            meets(&all, lost, 0, such, &of);
+        }
+        let of = format!("behind 06, of copy 4, {mode:?}");
+        let such = |met: &Met| met.copy.behind == Some(0x06) && met.copy.number == 4;
         meets(&all, "tx=acked:", -1, such, &of);
-        meets(&all, "tx=backoff:", 0, such, &of);
+        meets(&all, "tx=failed:", 0, such, &of);
     }
-    let such = |met: &Met| met.copy.behind == Some(0x06) && met.copy.number == 4;
-    meets(&all, "tx=acked:", -1, such, "behind 06, of copy 4");
-    meets(&all, "tx=failed:", 0, such, "behind 06, of copy 4");
 }
 
 /// The ACK comes back by a pass on the last tick that counts, and too late.
 #[test]
 fn frames_go_over_and_their_acks_come_back_at_the_edge() {
     let mut told = HashSet::new();
-    each_wait(&lines_of("wire"), |line, module, _, late| {
+    each_wait(&lines_in(Mode::Spaced, "wire"), |line, module, _, late| {
         if line.contains("bytes at=") && line.contains("line=- ") {
             told.insert((module, part(line, "tx=").unwrap().to_string(), late));
         }
@@ -550,24 +703,47 @@ fn frames_go_over_and_their_acks_come_back_at_the_edge() {
     }
 }
 
-/// A session whose ACK came on the last tick that counts, to its end.
+/// In the new mode the ACK that comes too late is to the copy that went out on
+/// the tick of the loss.
 #[test]
-fn responses_are_awaited_behind_late_acks() {
-    let mut behind = [false; 2];
-    let mut ends = HashSet::new();
-    each_wait(&lines_of("wire"), |line, module, _, late| {
-        let behind = &mut behind[usize::from(module)];
-        let session = part(line, "session=").unwrap();
-        if session == "waiting" {
-            *behind = late == -1;
-        } else if session != "nothing" && *behind {
-            let (end, _) = session.split_once(':').unwrap_or((session, ""));
-            ends.insert((module, end.to_string()));
+fn frames_go_over_and_their_acks_come_back_at_the_edge_in_the_new_mode() {
+    let mut told = HashSet::new();
+    each_wait(&lines_of("wire"), |line, module, copy, late| {
+        if line.contains("bytes at=") && line.contains("line=- ") {
+            let elapsed = late + 1_600 + i64::from(wire(copy.size));
+            let word = part(line, "tx=").unwrap().to_string();
+            told.insert((module, word.clone(), Err(late)));
+            if copy.at_loss {
+                told.insert((module, word, Ok(elapsed)));
+            }
         }
     });
     for module in [false, true] {
-        for end in ["response", "noresponse"] {
-            assert!(ends.contains(&(module, end.to_string())), "{module} {end}");
+        assert!(told.contains(&(module, "acked:1".to_string(), Err(-1))));
+        assert!(told.contains(&(module, "acked:2".to_string(), Ok(0))));
+    }
+}
+
+/// A session whose ACK came on the last tick that counts, to its end.
+#[test]
+fn responses_are_awaited_behind_late_acks() {
+    for mode in [Mode::Spaced, Mode::Sooner] {
+        let mut behind = [false; 2];
+        let mut ends = HashSet::new();
+        each_wait(&lines_in(mode, "wire"), |line, module, _, late| {
+            let behind = &mut behind[usize::from(module)];
+            let session = part(line, "session=").unwrap();
+            if session == "waiting" {
+                *behind = late == -1;
+            } else if session != "nothing" && *behind {
+                let (end, _) = session.split_once(':').unwrap_or((session, ""));
+                ends.insert((module, end.to_string()));
+            }
+        });
+        for module in [false, true] {
+            for end in ["response", "noresponse"] {
+                assert!(ends.contains(&(module, end.to_string())), "{module} {end}");
+            }
         }
     }
 }
@@ -575,7 +751,6 @@ fn responses_are_awaited_behind_late_acks() {
 #[test]
 fn the_wire_meets_silent_lines_aborts_and_cancelled_frames() {
     let edges = [
-        "rx=abort tx=backoff:100",
         "tx=failed:4 session=nothing",
         "tx=failed:4 session=notsent:4",
         "session=response:4",
@@ -583,7 +758,11 @@ fn the_wire_meets_silent_lines_aborts_and_cancelled_frames() {
         "module bytes at=",
         "rx=cancelled",
     ];
-    reaches("wire", &edges);
+    for mode in [Mode::Spaced, Mode::Sooner] {
+        reaches_in(mode, "wire", &edges);
+    }
+    reaches_in(Mode::Spaced, "wire", &["rx=abort tx=backoff:100"]);
+    reaches_in(Mode::Sooner, "wire", &["rx=abort tx=copy:2"]);
 }
 
 #[test]

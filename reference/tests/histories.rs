@@ -3,7 +3,7 @@
 
 mod common;
 
-use common::{called, Bench};
+use common::{called, Bench, CHOICES};
 use reference::choice::Choice;
 use reference::dice::Dice;
 use reference::link::Link;
@@ -12,9 +12,10 @@ use reference::refusal::Refusal;
 use reference::script::{understand, Call, LinkCall};
 
 /// Every call of a script, with the link before it, once on a host and once on
-/// a stand-in, whichever end the script names. All calls have room enough.
+/// a stand-in, each opened in both modes, whichever end the script names. All
+/// calls have room enough.
 fn each_call(text: &str, mut look: impl FnMut(&Link, LinkCall<'_>)) {
-    for choice in [Choice::HOST, Choice::MODULE] {
+    for choice in CHOICES {
         let mut link = Link::open_as(choice);
         let mut store = Vec::new();
         for line in text.split('\n') {
@@ -27,6 +28,9 @@ fn each_call(text: &str, mut look: impl FnMut(&Link, LinkCall<'_>)) {
                     look(&link, LinkCall::Tick);
                     (0..number).for_each(|_| follow(&mut link, LinkCall::Tick));
                 }
+                Some(Call::Open(Choice { mode, .. })) => {
+                    link = Link::open_as(Choice { mode, ..choice });
+                }
                 _ => {}
             }
         }
@@ -37,9 +41,9 @@ fn follow(link: &mut Link, call: LinkCall<'_>) {
     let _ = called(link, call, &mut [0; 258], &mut [0; 254]);
 }
 
-/// A kind with calls of every sort, the one that seeks the stand-in's edges, and
-/// the one with frames of every time on the wire.
-const SOUGHT: [&str; 3] = ["mixed", "module", "wire"];
+/// A kind with calls of every sort, the one that seeks the stand-in's edges, the
+/// one with frames of every time on the wire, and the one with both modes.
+const SOUGHT: [&str; 4] = ["mixed", "module", "wire", "modes"];
 
 /// A script of the kind that is this seed's turn.
 fn sought(seed: u64, lines: usize) -> String {
@@ -50,7 +54,7 @@ fn sought(seed: u64, lines: usize) -> String {
 #[test]
 fn a_run_equals_its_bytes_one_by_one() {
     let mut runs = 0;
-    for seed in 1..=9 {
+    for seed in 1..=12 {
         let text = sought(seed, 3_000);
         each_call(&text, |link, call| {
             let LinkCall::Bytes(run) = call else { return };
@@ -78,7 +82,7 @@ fn a_run_equals_its_bytes_one_by_one() {
 #[test]
 fn a_refusal_changes_nothing_in_any_state() {
     let mut dice = Dice::new(9);
-    for seed in 1..=6 {
+    for seed in 1..=8 {
         let text = sought(seed, 1_500);
         each_call(&text, |link, _| {
             let mut after = link.clone();
@@ -109,7 +113,7 @@ fn a_refusal_changes_nothing_in_any_state() {
 #[test]
 fn bytes_put_out_have_their_cause_in_the_report() {
     use reference::report::{ReceptionPart, SendingPart};
-    for seed in 1..=6 {
+    for seed in 1..=8 {
         let text = sought(seed, 3_000);
         each_call(&text, |link, call| {
             let mut bench = Bench::new();

@@ -38,7 +38,7 @@ fn every_word_of_the_four_parts() {
 #[test]
 fn ends_restarts_and_the_count_of_ticks() {
     plays(
-        "session 07\nticks 9704\nsession 07\nbyte 06\nticks 5000\nsession 07\nrestart\n\
+        "openspaced\nsession 07\nticks 9704\nsession 07\nbyte 06\nticks 5000\nsession 07\nrestart\n\
          send 01 07\nrestart\nbyte 01\nsend 00 07\nticks 1501\nrestart\nrestart\n\
          bytes 01 03 00 07 00\nbytes 01 03 00 07 00\nbytes 01 03 00 07 00\n",
         &[
@@ -67,6 +67,24 @@ fn ends_restarts_and_the_count_of_ticks() {
             "bytes at=16205 taken=5 rx=badsum tx=nothing session=nothing reset=sums line=15 up=-",
         ],
     );
+}
+
+/// A play begins as after `open`.
+#[test]
+fn a_session_that_is_not_sent_in_the_new_mode() {
+    for begin in ["", "open\n", "opensooner\n"] {
+        plays(
+            &format!("{begin}session 07\nticks 6903\ntick\n"),
+            &[
+                "session at=0 rx=nothing tx=copy:1 session=nothing reset=none line=01030007FB up=-",
+                "tick at=1601 rx=nothing tx=copy:2 session=nothing reset=none line=01030007FB up=-",
+                "tick at=3202 rx=nothing tx=copy:3 session=nothing reset=none line=01030007FB up=-",
+                "tick at=4803 rx=nothing tx=backoff:500 session=nothing reset=none line=- up=-",
+                "tick at=5303 rx=nothing tx=copy:4 session=nothing reset=none line=01030007FB up=-",
+                "tick at=6904 rx=nothing tx=failed:4 session=notsent:4 reset=delivery line=- up=-",
+            ],
+        );
+    }
 }
 
 #[test]
@@ -248,7 +266,8 @@ const OUT_OF_FORM: &[&str] = &[
     "read 1", "capabilities ", "nodes ", "nodesroom", "nodesroom 601", "nodesroom 1000000000",
     "timeouts", "timeouts 10", "timeouts 10 10 10", "timeouts 1000000000 10",
     "timeoutsroom 7 10", "timeoutsroom 601 10 10", "timeoutsres ", "timeoutsres 0x", "\u{e9}",
-    "byte \u{b2}0", "open", "linecount",
+    "byte \u{b2}0", "linecount", "open 1", "open ", " open", "Open", "opened", "opensooner x",
+    "openspaced 0", "openspaced ", "open sooner",
 ];
 
 #[test]

@@ -1,10 +1,10 @@
 //! Request P5: the stand-in, which cancels what comes while it waits for an
-//! ACK, and is the host in everything else.
+//! ACK, and is the host in everything else. In both modes of request P4.
 
 mod common;
 
 use common::*;
-use reference::choice::{Choice, Role};
+use reference::choice::{Choice, Mode, Role};
 use reference::link::Link;
 use reference::random::{kind, script};
 use reference::refusal::Refusal;
@@ -16,15 +16,19 @@ use reference::sending::State;
 const REQ_02: [u8; 5] = [0x01, 0x03, 0x00, 0x02, 0xFE];
 
 /// An end that waits for the ACK of REQ 02.
-fn waits(role: Role) -> Bench {
-    let mut bench = Bench::of(role);
+fn waits(choice: Choice) -> Bench {
+    let mut bench = Bench::of(choice);
     let sent = bench.send(0, 2, &[]).unwrap();
     assert_eq!(sent, says(rx("nothing"), tx("copy:1"), &REQ_02, &[]));
     bench
 }
 
 fn waiting() -> Bench {
-    waits(Role::Module)
+    waiting_in(Mode::Sooner)
+}
+
+fn waiting_in(mode: Mode) -> Bench {
+    waits(choice(Role::Module, mode))
 }
 
 /// The stand-in's answer to a right frame while it waits.
@@ -86,27 +90,38 @@ fn the_run_of_bad_sums_is_0_after_it() {
     }
 }
 
+/// Ticks before the frames, and how many frames come.
+const CANCELLED_AT: [(u32, u32); 5] = [(0, 1), (1, 3), (800, 1), (1_599, 2), (1_600, 1)];
+
+/// A stand-in on the 1,600th tick of its wait, having cancelled meanwhile.
+fn cancelled_at(mode: Mode, ticks: u32, frames: u32) -> Bench {
+    let mut bench = waiting_in(mode);
+    bench.quiet_ticks(ticks);
+    let before = bench.link.sender_state();
+    for _ in 0..frames {
+        assert_eq!(bench.bytes(&REQ_07), cancelled());
+    }
+    assert_eq!(bench.link.sender_state(), before);
+    bench.quiet_ticks(1_600 - ticks);
+    bench
+}
+
+/// The ACK still counts at 1,600 ticks, and the 1,601st loses the copy.
 #[test]
 fn the_send_goes_on_with_the_same_copy_and_the_same_wait() {
-    for (ticks, frames) in [(0, 1), (1, 3), (800, 1), (1_599, 2), (1_600, 1)] {
-        let mut bench = waiting();
-        bench.quiet_ticks(ticks);
-        let before = bench.link.sender_state();
-        for _ in 0..frames {
-            assert_eq!(bench.bytes(&REQ_07), cancelled());
-        }
-        assert_eq!(bench.link.sender_state(), before);
-        let mut other = Bench::module();
-        other.link = bench.link.clone();
-        // The ACK still counts at 1,600 ticks, and the 1,601st loses the copy.
-        bench.quiet_ticks(1_600 - ticks);
-        assert_eq!(bench.byte(6), acked(1));
-        other.quiet_ticks(1_600 - ticks);
+    let again = says(rx("nothing"), tx("copy:2"), &REQ_02, &[]);
+    for (ticks, frames) in CANCELLED_AT {
+        let mut bench = cancelled_at(Mode::Spaced, ticks, frames);
+        assert_eq!(bench.other().byte(6), acked(1));
         let lost = says(rx("nothing"), tx("backoff:100"), &[], &[]);
-        assert_eq!(other.tick(), lost);
-        other.quiet_ticks(99);
-        let again = says(rx("nothing"), tx("copy:2"), &REQ_02, &[]);
-        assert_eq!(other.tick(), again);
+        assert_eq!(bench.tick(), lost);
+        bench.quiet_ticks(99);
+        assert_eq!(bench.tick(), again);
+        // In the new mode it is repeated on that tick.
+        let mut bench = cancelled_at(Mode::Sooner, ticks, frames);
+        assert_eq!(bench.other().byte(6), acked(1));
+        assert_eq!(bench.tick(), again);
+        assert_eq!(bench.byte(6), acked(2));
     }
 }
 
@@ -197,9 +212,14 @@ mod not_waiting {
         bench.send(0, 2, &[]).unwrap();
         assert_eq!(bench.byte(6), acked(1));
         assert_eq!(bench.bytes(&REQ_07), up);
-        bench.send(0, 2, &[]).unwrap();
-        bench.ticks(9_704);
-        assert_eq!(bench.bytes(&RES_07), stray);
+        for (mode, failed) in [(Mode::Spaced, 9_704), (Mode::Sooner, 6_904)] {
+            let mut bench = waiting_in(mode);
+            bench.ticks(failed - 1);
+            assert_eq!(bench.other().bytes(&RES_07), cancelled());
+            let last = says(rx("nothing"), tx("failed:4 delivery"), &[], &[]);
+            assert_eq!(bench.tick(), last);
+            assert_eq!(bench.bytes(&RES_07), stray);
+        }
     }
 
     #[test]
@@ -250,7 +270,7 @@ mod not_waiting {
     #[test]
     fn lost_inside_that_very_frame() {
         // Lost one tick before the Checksum: it backs off, and is handed up.
-        let mut bench = waiting();
+        let mut bench = waiting_in(Mode::Spaced);
         bench.quiet_ticks(1_600);
         bench.bytes(&REQ_07[..4]);
         let lost = says(rx("nothing"), tx("backoff:100"), &[], &[]);
@@ -258,7 +278,7 @@ mod not_waiting {
         let up = says(rx("frame"), tx(""), &[6], &[0, 7]);
         assert_eq!(bench.byte(0xFB), up);
         // The back-off ends inside the frame too: a due copy follows.
-        let mut bench = waiting();
+        let mut bench = waiting_in(Mode::Spaced);
         bench.quiet_ticks(201);
         bench.bytes(&REQ_07[..4]);
         let said = bench.ticks(1_500);
@@ -272,36 +292,65 @@ mod not_waiting {
         assert_eq!(bench.bytes(&RES_07), cancelled());
     }
 
+    /// In the new mode there is no back-off: the copy is due at once.
+    #[test]
+    fn lost_inside_that_very_frame_and_due_at_once() {
+        for begun in [101, 201, 1_600] {
+            let mut bench = waiting();
+            bench.quiet_ticks(begun);
+            bench.bytes(&REQ_07[..4]);
+            bench.quiet_ticks(1_600 - begun);
+            let due = says(rx("nothing"), tx("due"), &[], &[]);
+            assert_eq!(bench.tick(), due);
+            let line = [&[6][..], &REQ_02].concat();
+            assert_eq!(
+                bench.byte(0xFB),
+                says(rx("frame"), tx("copy:2"), &line, &[0, 7])
+            );
+            // The copy waits now.
+            assert_eq!(bench.bytes(&RES_07), cancelled());
+        }
+    }
+
     #[test]
     fn failed_inside_that_very_frame() {
-        let mut bench = waiting();
-        bench.ticks(8_103);
-        bench.quiet_ticks(1_600);
-        bench.bytes(&RES_07[..4]);
-        let failed = says(rx("nothing"), tx("failed:4 delivery"), &[], &[]);
-        assert_eq!(bench.tick(), failed);
-        let stray = says(rx("strayresponse"), tx(""), &[6], &[1, 7]);
-        assert_eq!(bench.byte(0xFA), stray);
+        // The tick of copy 4.
+        for (mode, fourth) in [(Mode::Spaced, 8_103), (Mode::Sooner, 5_303)] {
+            let mut bench = waiting_in(mode);
+            bench.ticks(fourth);
+            bench.quiet_ticks(1_600);
+            bench.bytes(&RES_07[..4]);
+            let failed = says(rx("nothing"), tx("failed:4 delivery"), &[], &[]);
+            assert_eq!(bench.tick(), failed);
+            let stray = says(rx("strayresponse"), tx(""), &[6], &[1, 7]);
+            assert_eq!(bench.byte(0xFA), stray);
+        }
     }
 }
 
 #[test]
 fn the_state_is_judged_when_the_checksum_comes() {
-    for begun in [101, 1_000, 1_599, 1_600] {
-        // On the last tick of the wait.
-        let mut bench = waiting();
-        bench.quiet_ticks(begun);
-        bench.bytes(&REQ_07[..4]);
-        bench.quiet_ticks(1_600 - begun);
-        assert_eq!(bench.byte(0xFB), cancelled());
-        assert_eq!(bench.link.sender_state(), State::Waiting(1_600));
-        // On the next it waits no more.
-        let mut bench = waiting();
-        bench.quiet_ticks(begun);
-        bench.bytes(&REQ_07[..4]);
-        assert_eq!(bench.ticks(1_601 - begun).len(), 1);
-        let up = says(rx("frame"), tx(""), &[6], &[0, 7]);
-        assert_eq!(bench.byte(0xFB), up);
+    let due = [&[6][..], &REQ_02].concat();
+    let taken = [
+        (Mode::Spaced, says(rx("frame"), tx(""), &[6], &[0, 7])),
+        (Mode::Sooner, says(rx("frame"), tx("copy:2"), &due, &[0, 7])),
+    ];
+    for (mode, up) in taken {
+        for begun in [101, 1_000, 1_599, 1_600] {
+            // On the last tick of the wait.
+            let mut bench = waiting_in(mode);
+            bench.quiet_ticks(begun);
+            bench.bytes(&REQ_07[..4]);
+            bench.quiet_ticks(1_600 - begun);
+            assert_eq!(bench.byte(0xFB), cancelled());
+            assert_eq!(bench.link.sender_state(), State::Waiting(1_600));
+            // On the next it waits no more.
+            let mut bench = waiting_in(mode);
+            bench.quiet_ticks(begun);
+            bench.bytes(&REQ_07[..4]);
+            assert_eq!(bench.ticks(1_601 - begun).len(), 1);
+            assert_eq!(bench.byte(0xFB), up);
+        }
     }
 }
 
@@ -318,28 +367,31 @@ fn a_run_stops_behind_a_cancelled_frame() {
 
 #[test]
 fn a_restart_gives_a_fresh_stand_in() {
-    let fresh = Link::open_as(Choice { role: Role::Module });
-    let states: [fn() -> Bench; 4] = [
-        Bench::module,
-        waiting,
-        || {
-            let mut bench = waiting();
+    let states: [fn(Mode) -> Bench; 4] = [
+        |mode| Bench::of(choice(Role::Module, mode)),
+        waiting_in,
+        |mode| {
+            let mut bench = waiting_in(mode);
             bench.byte(0x15);
             bench.bytes(&BAD_07);
             bench
         },
-        || {
-            let mut bench = Bench::module();
+        |mode| {
+            let mut bench = Bench::of(choice(Role::Module, mode));
             bench.session(2, &[]).unwrap();
             bench.bytes(&[6, 1, 9]);
             bench
         },
     ];
-    for state in states {
-        let mut bench = state();
+    let modes = [Mode::Sooner, Mode::Spaced];
+    for (mode, state) in modes
+        .into_iter()
+        .flat_map(|mode| states.map(|state| (mode, state)))
+    {
+        let mut bench = state(mode);
         assert_eq!(bench.restart().line, [0x15]);
-        assert_eq!(bench.link, fresh);
-        assert_ne!(bench.link, Link::open());
+        assert_eq!(bench.link, Link::open_as(choice(Role::Module, mode)));
+        assert_ne!(bench.link, Link::open_as(choice(Role::Host, mode)));
         let up = says(rx("frame"), tx(""), &[6], &[0, 7]);
         assert_eq!(bench.bytes(&REQ_07), up);
         bench.send(0, 2, &[]).unwrap();
@@ -395,13 +447,16 @@ fn refusals_of_a_stand_in() {
 
 #[test]
 fn opening_without_a_choice_is_the_host() {
-    assert_eq!(Link::open(), Link::open_as(Choice { role: Role::Host }));
-    assert_ne!(Link::open(), Link::open_as(Choice { role: Role::Module }));
+    let host = |mode| Link::open_as(choice(Role::Host, mode));
+    let module = |mode| Link::open_as(choice(Role::Module, mode));
+    assert_eq!(Link::open(), host(Mode::Sooner));
+    assert_ne!(Link::open(), module(Mode::Sooner));
+    assert_ne!(Link::open(), module(Mode::Spaced));
 }
 
 #[test]
 fn the_host_takes_every_frame_while_it_waits() {
-    let host = || waits(Role::Host);
+    let host = || waits(choice(Role::Host, Mode::Sooner));
     for command in 0..=255 {
         let up = says(rx("frame"), tx(""), &[6], &[0, command]);
         assert_eq!(host().bytes(&framed(0, command, &[])), up);
@@ -419,53 +474,85 @@ fn the_host_takes_every_frame_while_it_waits() {
 }
 
 /// Seeds and kinds of the scripts that both roles are given.
-const PLAYED: [(u64, &str); 5] = [
+const PLAYED: [(u64, &str); 6] = [
     (1, "module"),
     (2, "module"),
     (3, "mixed"),
     (4, "coincidences"),
     (5, "wire"),
+    (6, "modes"),
 ];
 
 /// Both roles, given the same calls, differ nowhere but where the stand-in
-/// cancels, and are alike again behind it.
+/// cancels, and are alike again behind it; in both modes.
 #[test]
 fn the_roles_differ_in_this_rule_alone() {
+    for mode in [Mode::Sooner, Mode::Spaced] {
+        let (mut alike, mut cancels) = (0, 0);
+        for (seed, name) in PLAYED {
+            let text = script(seed, kind(name).unwrap(), 2_000);
+            let (same, other) = compared(mode, &text);
+            alike += same;
+            cancels += other;
+        }
+        assert!(alike > 100_000 && cancels > 200, "{alike} {cancels}");
+    }
+}
+
+/// Both roles, opened in this mode, and in others where the script opens one.
+fn both_roles(mode: Mode) -> [Bench; 2] {
+    [Role::Host, Role::Module].map(|role| Bench::of(choice(role, mode)))
+}
+
+/// Calls in which the two were alike, and those in which the stand-in
+/// cancelled.
+fn compared(mode: Mode, text: &str) -> (u32, u32) {
+    let mut benches = both_roles(mode);
     let (mut alike, mut cancels) = (0, 0);
-    for (seed, name) in PLAYED {
-        let (mut host, mut module) = (Bench::new(), Bench::module());
-        let mut store = Vec::new();
-        for line in script(seed, kind(name).unwrap(), 2_000).split('\n') {
-            let (call, number) = match understand(line.as_bytes(), &mut store) {
-                Some(Call::Link(_, call)) => (call, 1),
-                Some(Call::Ticks(_, number)) => (LinkCall::Tick, number),
-                _ => continue,
-            };
-            for _ in 0..number {
-                let waited = matches!(module.link.sender_state(), State::Waiting(_));
-                let [one, other] = [&mut host, &mut module].map(|bench| said(bench, call));
-                if one == other {
-                    alike += 1;
-                    continue;
-                }
-                let ((taken, one), (also, other)) = (one.unwrap(), other.unwrap());
-                assert_eq!(taken, also);
-                assert!(waited);
-                assert_eq!(other, cancelled());
-                assert_eq!(one.line, [6]);
-                let frame = matches!(
-                    one.report.reception,
-                    ReceptionPart::Frame | ReceptionPart::StrayResponse
-                );
-                assert!(frame && one.up.len() >= 2);
-                assert_eq!(host.link.sender_state(), module.link.sender_state());
-                assert_eq!(host.link.session_state(), module.link.session_state());
-                assert_eq!(host.link.bad_sums(), module.link.bad_sums());
+    let mut store = Vec::new();
+    for line in text.split('\n') {
+        let (call, number) = match understand(line.as_bytes(), &mut store) {
+            Some(Call::Link(_, call)) => (call, 1),
+            Some(Call::Ticks(_, number)) => (LinkCall::Tick, number),
+            Some(Call::Open(Choice { mode, .. })) => {
+                benches = both_roles(mode);
+                continue;
+            }
+            _ => continue,
+        };
+        for _ in 0..number {
+            if alike_in(&mut benches, call) {
+                alike += 1;
+            } else {
                 cancels += 1;
             }
         }
     }
-    assert!(alike > 100_000 && cancels > 200, "{alike} {cancels}");
+    (alike, cancels)
+}
+
+/// Whether a call said the same on both; if not, the stand-in cancelled.
+fn alike_in(benches: &mut [Bench; 2], call: LinkCall<'_>) -> bool {
+    let [host, module] = benches;
+    let waited = matches!(module.link.sender_state(), State::Waiting(_));
+    let (one, other) = (said(host, call), said(module, call));
+    if one == other {
+        return true;
+    }
+    let ((taken, one), (also, other)) = (one.unwrap(), other.unwrap());
+    assert_eq!(taken, also);
+    assert!(waited);
+    assert_eq!(other, cancelled());
+    assert_eq!(one.line, [6]);
+    let frame = matches!(
+        one.report.reception,
+        ReceptionPart::Frame | ReceptionPart::StrayResponse
+    );
+    assert!(frame && one.up.len() >= 2);
+    assert_eq!(host.link.sender_state(), module.link.sender_state());
+    assert_eq!(host.link.session_state(), module.link.session_state());
+    assert_eq!(host.link.bad_sums(), module.link.bad_sums());
+    false
 }
 
 /// What a call on the bench said, and the bytes it took.

@@ -210,7 +210,7 @@ fn all_that_was_put_out_goes_in_runs_until_it_is_taken() {
 fn what_each_call_puts_out_is_given() {
     // byte, bytes, tick, each tick of ticks, restart, send, session; of both.
     plays(
-        "byte 01\nsend 00 07\nticks 1501\nticks 1701\nrestart\npass\n",
+        "openspaced\nbyte 01\nsend 00 07\nticks 1501\nticks 1701\nrestart\npass\n",
         &[
             &line("byte at=0", "nothing", "nothing", "-", "-"),
             &line("send at=0", "nothing", "due", "-", "-"),
@@ -245,6 +245,42 @@ fn what_each_call_puts_out_is_given() {
             &line("bytes at=0 taken=1", "nothing", "stray", "-", "-"),
             &line("bytes at=0 taken=5", "frame", "nothing", "06", "0002"),
             &line("bytes at=0 taken=5", "frame", "nothing", "06", "0002"),
+        ],
+    );
+}
+
+/// In the new mode the tick of the loss puts out the next copy.
+#[test]
+fn what_the_tick_of_a_loss_puts_out_is_given() {
+    plays(
+        "send 00 07\nticks 1601\nmodule send 00 02\nmodule ticks 1601\npass\n",
+        &[
+            &line("send at=0", "nothing", "copy:1", "01030007FB", "-"),
+            &line("tick at=1601", "nothing", "copy:2", "01030007FB", "-"),
+            &line("module send at=0", "nothing", "copy:1", "01030002FE", "-"),
+            &line(
+                "module tick at=1601",
+                "nothing",
+                "copy:2",
+                "01030002FE",
+                "-",
+            ),
+            &line(
+                "module bytes at=1601 taken=5",
+                "cancelled",
+                "nothing",
+                "18",
+                "-",
+            ),
+            &line(
+                "module bytes at=1601 taken=5",
+                "cancelled",
+                "nothing",
+                "18",
+                "-",
+            ),
+            &line("bytes at=1601 taken=5", "frame", "nothing", "06", "0002"),
+            &line("bytes at=1601 taken=5", "frame", "nothing", "06", "0002"),
         ],
     );
 }

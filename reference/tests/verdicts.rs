@@ -4,20 +4,22 @@
 mod common;
 
 use common::*;
-use reference::choice::{Choice, Role};
+use reference::choice::{Choice, Mode, Role};
 use reference::link::Link;
 use reference::random::{script, KINDS};
 use reference::report::{Report, SendingPart, SessionPart};
 use reference::script::{understand, Call, LinkCall};
 
 /// The last tick on which a verdict may come, counted from acceptance, for a
-/// frame that would take no time on the wire.
-const SEND_BOUND: u32 = 15_701;
-const SESSION_BOUND: u32 = 20_700;
-
-/// The last tick for a frame of so many bytes, whose time counts four times.
-fn bound(session: bool, size: usize) -> u32 {
-    let bound = if session { SESSION_BOUND } else { SEND_BOUND };
+/// frame of so many bytes, whose time on the wire counts four times. In the new
+/// mode the NAK that is worse than the loss comes a tick before it, three times.
+fn bound(mode: Mode, session: bool, size: usize) -> u32 {
+    let bound = match (mode, session) {
+        (Mode::Spaced, false) => 15_701,
+        (Mode::Spaced, true) => 20_700,
+        (Mode::Sooner, false) => 15_698,
+        (Mode::Sooner, true) => 20_697,
+    };
     bound + 4 * wire(size)
 }
 
@@ -34,6 +36,7 @@ struct Open {
 
 /// Watches a history by what the calls report and put out alone.
 struct Watch {
+    mode: Mode,
     open: Option<Open>,
     verdicts: u32,
     failures: u32,
@@ -59,8 +62,9 @@ fn frames(mut bytes: &[u8]) -> Vec<&[u8]> {
 }
 
 impl Watch {
-    fn new() -> Watch {
+    fn new(mode: Mode) -> Watch {
         Watch {
+            mode,
             open: None,
             verdicts: 0,
             failures: 0,
@@ -71,7 +75,7 @@ impl Watch {
     fn accepted(&mut self, frame: Vec<u8>, session: bool) {
         assert!(self.open.is_none(), "accepted while one is open");
         self.open = Some(Open {
-            bound: bound(session, frame.len()),
+            bound: bound(self.mode, session, frame.len()),
             frame,
             session,
             ticks: 0,
@@ -133,6 +137,9 @@ struct Watched {
     link: Link,
     watch: Watch,
     rooms: (usize, usize),
+    /// Lent to every call.
+    line: [u8; 600],
+    up: [u8; 600],
 }
 
 impl Watched {
@@ -143,14 +150,23 @@ impl Watched {
             Call::Room { line, up } => self.rooms = (line, up),
             Call::Link(_, call) => self.call(call),
             Call::Ticks(_, number) => (0..number).for_each(|_| self.call(LinkCall::Tick)),
+            Call::Open(choice) => self.open(choice.mode),
             _ => {}
         }
     }
 
+    /// A fresh link of the same end: what was open has no verdict any more.
+    fn open(&mut self, mode: Mode) {
+        let role = self.link.choice().role;
+        self.link = Link::open_as(Choice { role, mode });
+        self.watch.mode = mode;
+        self.watch.open = None;
+    }
+
     /// One call on the link; the watch hears of it if it is accepted.
     fn call(&mut self, call: LinkCall<'_>) {
-        let (mut line, mut up) = ([0; 600], [0; 600]);
-        let (line, up) = (&mut line[..self.rooms.0], &mut up[..self.rooms.1]);
+        let line = &mut self.line[..self.rooms.0];
+        let up = &mut self.up[..self.rooms.1];
         let Ok((_, report)) = called(&mut self.link, call, line, up) else {
             return;
         };
@@ -175,11 +191,13 @@ impl Watched {
     }
 }
 
-fn watched(role: Role, text: &str) -> Watch {
+fn watched(choice: Choice, text: &str) -> Watch {
     let mut watched = Watched {
-        link: Link::open_as(Choice { role }),
-        watch: Watch::new(),
+        link: Link::open_as(choice),
+        watch: Watch::new(choice.mode),
         rooms: (258, 254),
+        line: [0; 600],
+        up: [0; 600],
     };
     let mut store = Vec::new();
     for line in text.split('\n') {
@@ -190,12 +208,12 @@ fn watched(role: Role, text: &str) -> Watch {
     watched.watch
 }
 
-/// Verdicts and failures of random histories of an end.
-fn histories_of(role: Role) -> (u32, u32) {
+/// Verdicts and failures of random histories of a link.
+fn histories_of(choice: Choice) -> (u32, u32) {
     let (mut verdicts, mut failures) = (0, 0);
     for kind in KINDS {
         for seed in 1..=4 {
-            let watch = watched(role, &script(seed, kind, 2_500));
+            let watch = watched(choice, &script(seed, kind, 2_500));
             verdicts += watch.verdicts;
             failures += watch.failures;
         }
@@ -203,22 +221,28 @@ fn histories_of(role: Role) -> (u32, u32) {
     (verdicts, failures)
 }
 
+/// In the mode of the opening, but where a script opens in another.
+fn keep_the_promises(role: Role) {
+    for mode in [Mode::Sooner, Mode::Spaced] {
+        let (verdicts, failures) = histories_of(choice(role, mode));
+        assert!(verdicts > 4_000, "{mode:?} {verdicts}");
+        assert!(failures > 400, "{mode:?} {failures}");
+    }
+}
+
 #[test]
 fn random_histories_keep_the_promises() {
-    let (verdicts, failures) = histories_of(Role::Host);
-    assert!(verdicts > 4_000, "{verdicts}");
-    assert!(failures > 400, "{failures}");
+    keep_the_promises(Role::Host);
 }
 
 #[test]
 fn random_histories_of_a_stand_in_keep_the_promises() {
-    let (verdicts, failures) = histories_of(Role::Module);
-    assert!(verdicts > 4_000, "{verdicts}");
-    assert!(failures > 400, "{failures}");
+    keep_the_promises(Role::Module);
 }
 
-/// The slowest history of a frame of so many bytes: accepted just after a 01,
-/// lost four times, and each back-off ends just after another 01.
+/// The slowest history of a frame of so many bytes in the old mode: accepted
+/// just after a 01, lost four times, and each back-off ends just after another
+/// 01.
 fn slowest(open: &str, size: usize) -> String {
     let mut text = format!("byte 01\n{open}{}\nticks 1501\n", " 06".repeat(size - 5));
     for back_off in [100, 1_100, 2_100] {
@@ -230,31 +254,56 @@ fn slowest(open: &str, size: usize) -> String {
     text
 }
 
-/// The same to its end: copy 4 is lost.
-fn slowest_send(size: usize) -> String {
-    slowest("send 00 07", size) + &format!("ticks {}\n", 1_600 + wire(size))
+/// The slowest history in the new mode: copies 1 to 3 are refused a tick before
+/// they would be lost, since a loss is repeated sooner.
+fn slowest_sooner(open: &str, size: usize) -> String {
+    let mut text = format!("byte 01\n{open}{}\nticks 1501\n", " 06".repeat(size - 5));
+    for before_last in [99, 1_099, 2_099] {
+        let last = 1_599 + wire(size);
+        text += &format!("ticks {last}\nbyte 15\nticks {before_last}\nbyte 01\nticks 1501\n");
+    }
+    text
+}
+
+/// The slowest history of a mode to its end: copy 4 is lost.
+fn slowest_send(mode: Mode, size: usize) -> String {
+    let text = match mode {
+        Mode::Spaced => slowest("send 00 07", size),
+        Mode::Sooner => slowest_sooner("send 00 07", size),
+    };
+    text + &format!("ticks {}\n", 1_600 + wire(size))
 }
 
 /// The same to its end: copy 4 is acknowledged on the last tick that counts,
 /// and no response comes.
-fn slowest_session(size: usize) -> String {
+fn slowest_session(mode: Mode, size: usize) -> String {
+    let text = match mode {
+        Mode::Spaced => slowest("session 07", size),
+        Mode::Sooner => slowest_sooner("session 07", size),
+    };
     let last = 1_599 + wire(size);
-    slowest("session 07", size) + &format!("ticks {last}\nbyte 06\nticks 5000\n")
+    text + &format!("ticks {last}\nbyte 06\nticks 5000\n")
 }
 
 /// Verdicts, failures and the tick of the verdict at both ends, with ticks
 /// enough for another verdict, if there were one.
-fn both_take(text: &str, expected: (u32, u32, u32)) {
+fn both_take(mode: Mode, text: &str, expected: (u32, u32, u32)) {
     for role in [Role::Host, Role::Module] {
-        let watch = watched(role, &format!("{text}ticks 9000\n"));
+        let watch = watched(choice(role, mode), &format!("{text}ticks 9000\n"));
         assert_eq!((watch.verdicts, watch.failures, watch.latest), expected);
     }
+}
+
+/// The last line of a play.
+fn ends_with(text: &str, line: &str) {
+    assert_eq!(played(text).last().unwrap(), line);
 }
 
 #[test]
 fn a_send_can_take_15701_and_4w_ticks() {
     for size in 5..=257 {
-        both_take(&slowest_send(size), (1, 1, 15_701 + 4 * wire(size)));
+        let text = slowest_send(Mode::Spaced, size);
+        both_take(Mode::Spaced, &text, (1, 1, 15_701 + 4 * wire(size)));
     }
     // 1 tick on the wire for 5 bytes, 23 for 257.
     for (size, line) in [
@@ -267,14 +316,16 @@ fn a_send_can_take_15701_and_4w_ticks() {
             "tick at=15793 rx=nothing tx=failed:4 session=nothing reset=delivery line=- up=-",
         ),
     ] {
-        assert_eq!(played(&slowest_send(size)).last().unwrap(), line);
+        let text = slowest_send(Mode::Spaced, size);
+        ends_with(&format!("openspaced\n{text}"), line);
     }
 }
 
 #[test]
 fn a_session_can_take_20700_and_4w_ticks() {
     for size in 5..=257 {
-        both_take(&slowest_session(size), (1, 0, 20_700 + 4 * wire(size)));
+        let text = slowest_session(Mode::Spaced, size);
+        both_take(Mode::Spaced, &text, (1, 0, 20_700 + 4 * wire(size)));
     }
     for (size, line) in [
         (
@@ -286,7 +337,62 @@ fn a_session_can_take_20700_and_4w_ticks() {
             "tick at=20792 rx=nothing tx=nothing session=noresponse:4 reset=none line=- up=-",
         ),
     ] {
-        assert_eq!(played(&slowest_session(size)).last().unwrap(), line);
+        let text = slowest_session(Mode::Spaced, size);
+        ends_with(&format!("openspaced\n{text}"), line);
+    }
+}
+
+#[test]
+fn a_send_can_take_15698_and_4w_ticks_in_the_new_mode() {
+    for size in 5..=257 {
+        let text = slowest_send(Mode::Sooner, size);
+        both_take(Mode::Sooner, &text, (1, 1, 15_698 + 4 * wire(size)));
+    }
+    for (size, line) in [
+        (
+            5,
+            "tick at=15702 rx=nothing tx=failed:4 session=nothing reset=delivery line=- up=-",
+        ),
+        (
+            257,
+            "tick at=15790 rx=nothing tx=failed:4 session=nothing reset=delivery line=- up=-",
+        ),
+    ] {
+        ends_with(&slowest_send(Mode::Sooner, size), line);
+    }
+}
+
+#[test]
+fn a_session_can_take_20697_and_4w_ticks_in_the_new_mode() {
+    for size in 5..=257 {
+        let text = slowest_session(Mode::Sooner, size);
+        both_take(Mode::Sooner, &text, (1, 0, 20_697 + 4 * wire(size)));
+    }
+    for (size, line) in [
+        (
+            5,
+            "tick at=20701 rx=nothing tx=nothing session=noresponse:4 reset=none line=- up=-",
+        ),
+        (
+            257,
+            "tick at=20789 rx=nothing tx=nothing session=noresponse:4 reset=none line=- up=-",
+        ),
+    ] {
+        ends_with(&slowest_session(Mode::Sooner, size), line);
+    }
+}
+
+/// The old mode's slowest history is sooner over in the new one: the copies
+/// that are lost are repeated at once.
+#[test]
+fn the_slowest_losses_are_sooner_over_in_the_new_mode() {
+    for size in [5, 257] {
+        let watch = watched(
+            choice(Role::Host, Mode::Sooner),
+            &format!("{}ticks 9000\n", slowest_send(Mode::Spaced, size)),
+        );
+        assert_eq!((watch.verdicts, watch.failures), (1, 1));
+        assert!(watch.latest < 15_698 + 4 * wire(size));
     }
 }
 
@@ -307,7 +413,11 @@ mod the_watch_finds {
     }
 
     fn sent() -> Watch {
-        let mut watch = Watch::new();
+        sent_in(Mode::Spaced)
+    }
+
+    fn sent_in(mode: Mode) -> Watch {
+        let mut watch = Watch::new(mode);
         watch.accepted(REQ_07.to_vec(), false);
         let copy = report(SendingPart::Copy(1), SessionPart::Nothing);
         watch.call(&copy, &REQ_07, false);
@@ -353,20 +463,31 @@ mod the_watch_finds {
     }
 
     /// A frame of 5 bytes without a verdict on so many ticks.
-    fn without_a_verdict(ticks: u32) {
+    fn without_a_verdict(mode: Mode, ticks: u32) {
         let nothing = report(SendingPart::Nothing, SessionPart::Nothing);
-        let mut watch = sent();
+        let mut watch = sent_in(mode);
         (0..ticks).for_each(|_| watch.call(&nothing, &[], true));
     }
 
     #[test]
     #[should_panic(expected = "no verdict in time")]
     fn no_verdict_in_time() {
-        without_a_verdict(15_705);
+        without_a_verdict(Mode::Spaced, 15_705);
     }
 
     #[test]
     fn no_fault_before_that_time() {
-        without_a_verdict(15_704);
+        without_a_verdict(Mode::Spaced, 15_704);
+    }
+
+    #[test]
+    #[should_panic(expected = "no verdict in time")]
+    fn no_verdict_in_time_in_the_new_mode() {
+        without_a_verdict(Mode::Sooner, 15_702);
+    }
+
+    #[test]
+    fn no_fault_before_that_time_in_the_new_mode() {
+        without_a_verdict(Mode::Sooner, 15_701);
     }
 }

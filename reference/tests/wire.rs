@@ -1,15 +1,13 @@
 //! Request P2: a copy waits 1,600 ticks behind the time that its frame takes on
-//! the wire, and nothing else moves.
+//! the wire, and nothing else moves. In both modes of request P4.
 
 mod common;
 
 use common::*;
-use reference::choice::Role;
+use reference::choice::{Choice, Mode, Role};
 use reference::link::Link;
 use reference::report::SendingPart;
 use reference::sending::wire_ticks;
-
-const BOTH: [Role; 2] = [Role::Host, Role::Module];
 
 /// The last size of each time on the wire, by hand: 288/25 is 11.52, so 1 tick
 /// is enough for 11 bytes, 2 for 23 (23.04), 3 for 34 (34.56), up to 22 for 253
@@ -24,9 +22,9 @@ fn said(words: &str, line: &[u8]) -> Said {
     says(rx("nothing"), tx(words), line, &[])
 }
 
-/// An end that waits for the ACK of a frame of so many bytes, and the frame.
-fn waiting(role: Role, size: usize) -> (Bench, Vec<u8>) {
-    let mut bench = Bench::of(role);
+/// A link that waits for the ACK of a frame of so many bytes, and the frame.
+fn waiting(choice: Choice, size: usize) -> (Bench, Vec<u8>) {
+    let mut bench = Bench::of(choice);
     let parameters = vec![0x06; size - 5];
     let frame = framed(0, 7, &parameters);
     assert_eq!(frame.len(), size);
@@ -35,21 +33,42 @@ fn waiting(role: Role, size: usize) -> (Bench, Vec<u8>) {
     (bench, frame)
 }
 
+/// The back-off after the loss by time of a copy; none after copy 4.
+fn back_off(mode: Mode, copies: usize) -> Option<u32> {
+    let back_offs = match mode {
+        Mode::Spaced => [100, 1_100, 2_100],
+        Mode::Sooner => [0, 0, 500],
+    };
+    back_offs.get(copies - 1).copied()
+}
+
 /// From a copy just put out: an ACK counts after 1,599 + w ticks, and the next
-/// tick loses the copy, behind which an ACK is stray.
-fn waits(bench: &mut Bench, size: usize, copies: usize) {
+/// tick loses the copy. Where that begins a back-off or ends the send, an ACK
+/// behind it is stray; else it is to the next copy, which is out.
+fn waits(bench: &mut Bench, frame: &[u8], copies: usize) {
+    let size = frame.len();
     bench.quiet_ticks(1_599 + wire(size));
-    let mut other = Bench::new();
-    other.link = bench.link.clone();
-    assert_eq!(other.byte(6), said(&format!("acked:{copies}"), &[]));
-    let lost = [
-        "backoff:100",
-        "backoff:1100",
-        "backoff:2100",
-        "failed:4 delivery",
-    ][copies - 1];
-    assert_eq!(bench.tick(), said(lost, &[]), "{size} bytes, copy {copies}");
-    assert_eq!(bench.byte(6), said("stray", &[]));
+    let acked = said(&format!("acked:{copies}"), &[]);
+    assert_eq!(bench.other().byte(6), acked);
+    let next = format!("copy:{}", copies + 1);
+    let (lost, then) = match back_off(bench.link.choice().mode, copies) {
+        Some(0) => (said(&next, frame), format!("acked:{}", copies + 1)),
+        Some(ticks) => (said(&format!("backoff:{ticks}"), &[]), "stray".to_string()),
+        None => (said("failed:4 delivery", &[]), "stray".to_string()),
+    };
+    assert_eq!(bench.tick(), lost, "{size} bytes, copy {copies}");
+    assert_eq!(bench.other().byte(6), said(&then, &[]));
+}
+
+/// The same, and on to the next copy, put out.
+fn waits_and_backs_off(bench: &mut Bench, frame: &[u8], copies: usize) {
+    waits(bench, frame, copies);
+    let ticks = back_off(bench.link.choice().mode, copies).unwrap();
+    if ticks > 0 {
+        bench.quiet_ticks(ticks - 1);
+        let copy = format!("copy:{}", copies + 1);
+        assert_eq!(bench.tick(), said(&copy, frame));
+    }
 }
 
 #[test]
@@ -96,37 +115,38 @@ fn the_time_is_25_288ths_of_the_size_and_less_than_a_tick_more() {
 #[test]
 fn the_constant_stays_1600() {
     assert_eq!(Link::ACK_TICKS, 1_600);
-    let (bench, _) = waiting(Role::Host, 5);
-    assert_eq!(bench.link.ack_ticks(), 1_601);
-    let (bench, _) = waiting(Role::Host, 257);
-    assert_eq!(bench.link.ack_ticks(), 1_623);
+    for choice in CHOICES {
+        let (bench, _) = waiting(choice, 5);
+        assert_eq!(bench.link.ack_ticks(), 1_601);
+        let (bench, _) = waiting(choice, 257);
+        assert_eq!(bench.link.ack_ticks(), 1_623);
+    }
 }
 
 #[test]
 fn a_copy_of_every_size_is_lost_behind_its_time_on_the_wire() {
-    for role in BOTH {
+    for choice in CHOICES {
+        let second = match choice.mode {
+            Mode::Spaced => 1_700,
+            Mode::Sooner => 1_600,
+        };
         for size in 5..=257 {
-            let (mut bench, frame) = waiting(role, size);
-            waits(&mut bench, size, 1);
-            bench.quiet_ticks(99);
-            assert_eq!(bench.tick(), said("copy:2", &frame));
-            assert_eq!(bench.ticks, 1_700 + wire(size));
+            let (mut bench, frame) = waiting(choice, size);
+            waits_and_backs_off(&mut bench, &frame, 1);
+            assert_eq!(bench.ticks, second + wire(size));
         }
     }
 }
 
 #[test]
 fn each_of_the_four_copies_waits_the_same() {
-    for role in BOTH {
+    for choice in CHOICES {
         for size in [5, 11, 12, 23, 24, 103, 104, 241, 242, 253, 254, 257] {
-            let (mut bench, frame) = waiting(role, size);
-            for (before, back_off) in [100, 1_100, 2_100].into_iter().enumerate() {
-                waits(&mut bench, size, before + 1);
-                bench.quiet_ticks(back_off - 1);
-                let copy = format!("copy:{}", before + 2);
-                assert_eq!(bench.tick(), said(&copy, &frame));
+            let (mut bench, frame) = waiting(choice, size);
+            for copies in 1..=3 {
+                waits_and_backs_off(&mut bench, &frame, copies);
             }
-            waits(&mut bench, size, 4);
+            waits(&mut bench, &frame, 4);
         }
     }
 }
@@ -152,16 +172,17 @@ fn behind(bench: &mut Bench, answered: (&[u8], &str, u8), copies: usize, frame: 
 /// Of 11, 23 .. 253 bytes a byte more would take a tick more.
 #[test]
 fn a_copy_behind_a_06_or_15_waits_by_its_own_bytes_alone() {
-    for role in BOTH {
+    for choice in CHOICES {
         for answered in ANSWERED {
             for size in [5, 257].into_iter().chain(LAST) {
-                let mut bench = Bench::of(role);
+                let mut bench = Bench::of(choice);
                 bench.byte(1);
                 let parameters = vec![0x15; size - 5];
+                let frame = framed(1, 2, &parameters);
                 let due = bench.send(1, 2, &parameters).unwrap();
                 assert_eq!(due, said("due", &[]));
-                behind(&mut bench, answered, 1, &framed(1, 2, &parameters));
-                waits(&mut bench, size, 1);
+                behind(&mut bench, answered, 1, &frame);
+                waits(&mut bench, &frame, 1);
             }
         }
     }
@@ -169,40 +190,47 @@ fn a_copy_behind_a_06_or_15_waits_by_its_own_bytes_alone() {
 
 #[test]
 fn so_does_a_later_copy_behind_one() {
-    for role in BOTH {
+    for choice in CHOICES {
         for (size, answered) in [11, 23, 241, 253].into_iter().zip(ANSWERED) {
-            let (mut bench, frame) = waiting(role, size);
-            for (before, back_off) in [100, 1_100, 2_100].into_iter().enumerate() {
-                waits(&mut bench, size, before + 1);
-                bench.quiet_ticks(back_off - 1);
+            let (mut bench, frame) = waiting(choice, size);
+            for copies in 1..=3 {
+                // The last tick of the back-off, or of the wait where there is
+                // no back-off, falls inside the frame.
+                match back_off(choice.mode, copies).unwrap() {
+                    0 => bench.quiet_ticks(1_599 + wire(size)),
+                    ticks => {
+                        waits(&mut bench, &frame, copies);
+                        bench.quiet_ticks(ticks - 1);
+                    }
+                }
                 bench.byte(1);
                 assert_eq!(bench.tick(), said("due", &[]));
-                behind(&mut bench, answered, before + 2, &frame);
+                behind(&mut bench, answered, copies + 1, &frame);
             }
-            waits(&mut bench, size, 4);
+            waits(&mut bench, &frame, 4);
         }
     }
 }
 
 #[test]
 fn a_copy_put_out_by_an_abort_or_a_bad_length_waits_the_same() {
-    for role in BOTH {
+    for choice in CHOICES {
         for size in [5, 11, 12, 253, 254, 257] {
             let parameters = vec![0x18; size - 5];
             let frame = framed(0, 2, &parameters);
-            let mut bench = Bench::of(role);
+            let mut bench = Bench::of(choice);
             bench.byte(1);
             bench.send(0, 2, &parameters).unwrap();
             bench.quiet_ticks(1_500);
             let abort = says(rx("abort"), tx("copy:1"), &frame, &[]);
             assert_eq!(bench.tick(), abort);
-            waits(&mut bench, size, 1);
-            let mut bench = Bench::of(role);
+            waits(&mut bench, &frame, 1);
+            let mut bench = Bench::of(choice);
             bench.byte(1);
             bench.send(0, 2, &parameters).unwrap();
             let bad = says(rx("badlen"), tx("copy:1"), &frame, &[]);
             assert_eq!(bench.byte(2), bad);
-            waits(&mut bench, size, 1);
+            waits(&mut bench, &frame, 1);
         }
     }
 }
@@ -210,7 +238,7 @@ fn a_copy_put_out_by_an_abort_or_a_bad_length_waits_the_same() {
 /// Size of a frame, and the ticks of copies 2, 3 and 4 and of the failure.
 type Silence = (usize, [u32; 4]);
 
-/// With w for 5, 12, 104 and 257 bytes of 1, 2, 10 and 23.
+/// With w for 5, 12, 104 and 257 bytes of 1, 2, 10 and 23, in the old mode.
 const SILENCE: [Silence; 4] = [
     (5, [1_701, 4_402, 8_103, 9_704]),
     (12, [1_702, 4_404, 8_106, 9_708]),
@@ -218,43 +246,62 @@ const SILENCE: [Silence; 4] = [
     (257, [1_723, 4_446, 8_169, 9_792]),
 ];
 
+/// The same in the new mode.
+const SILENCE_SOONER: [Silence; 4] = [
+    (5, [1_601, 3_202, 5_303, 6_904]),
+    (12, [1_602, 3_204, 5_306, 6_908]),
+    (104, [1_610, 3_220, 5_330, 6_940]),
+    (257, [1_623, 3_246, 5_369, 6_992]),
+];
+
+/// A silent line of both ends, for a send and for a session.
+fn silent(mode: Mode, (size, at): Silence) {
+    for (role, session) in [
+        (Role::Host, false),
+        (Role::Host, true),
+        (Role::Module, false),
+        (Role::Module, true),
+    ] {
+        let mut bench = Bench::of(choice(role, mode));
+        let parameters = vec![9; size - 5];
+        let frame = framed(0, 7, &parameters);
+        let first = if session {
+            bench.session(7, &parameters)
+        } else {
+            bench.send(0, 7, &parameters)
+        };
+        assert_eq!(first, Ok(said("copy:1", &frame)));
+        let failed = ["failed:4 delivery", "failed:4 notsent:4 delivery"];
+        let told: Vec<(u32, Said)> = bench
+            .ticks(20_000)
+            .into_iter()
+            .filter(|(_, said)| !matches!(said.report.sending, SendingPart::BackingOff(_)))
+            .collect();
+        let expected = [
+            (at[0], said("copy:2", &frame)),
+            (at[1], said("copy:3", &frame)),
+            (at[2], said("copy:4", &frame)),
+            (at[3], said(failed[usize::from(session)], &[])),
+        ];
+        assert_eq!(told, expected);
+    }
+}
+
 #[test]
 fn silent_lines() {
-    for (size, at) in SILENCE {
-        for role in BOTH {
-            for session in [false, true] {
-                let mut bench = Bench::of(role);
-                let parameters = vec![9; size - 5];
-                let frame = framed(0, 7, &parameters);
-                let first = if session {
-                    bench.session(7, &parameters)
-                } else {
-                    bench.send(0, 7, &parameters)
-                };
-                assert_eq!(first, Ok(said("copy:1", &frame)));
-                let failed = ["failed:4 delivery", "failed:4 notsent:4 delivery"];
-                let told: Vec<(u32, Said)> = bench
-                    .ticks(20_000)
-                    .into_iter()
-                    .filter(|(_, said)| !matches!(said.report.sending, SendingPart::BackingOff(_)))
-                    .collect();
-                let expected = [
-                    (at[0], said("copy:2", &frame)),
-                    (at[1], said("copy:3", &frame)),
-                    (at[2], said("copy:4", &frame)),
-                    (at[3], said(failed[usize::from(session)], &[])),
-                ];
-                assert_eq!(told, expected);
-            }
-        }
+    for silence in SILENCE {
+        silent(Mode::Spaced, silence);
+    }
+    for silence in SILENCE_SOONER {
+        silent(Mode::Sooner, silence);
     }
 }
 
 #[test]
 fn back_offs_do_not_go_by_the_size() {
-    for role in BOTH {
+    for choice in CHOICES {
         for single in [0x15, 0x18] {
-            let (mut bench, frame) = waiting(role, 257);
+            let (mut bench, frame) = waiting(choice, 257);
             for (before, at) in [100, 1_200, 3_300].into_iter().enumerate() {
                 bench.byte(single);
                 bench.quiet_ticks(at - bench.ticks - 1);
@@ -267,17 +314,34 @@ fn back_offs_do_not_go_by_the_size() {
     }
 }
 
+/// Nor does what is left of one when the 1,600 ticks waited are subtracted.
+#[test]
+fn the_back_off_left_after_a_loss_does_not_go_by_the_size() {
+    for role in [Role::Host, Role::Module] {
+        for size in [5, 12, 104, 257] {
+            let (mut bench, frame) = waiting(choice(role, Mode::Sooner), size);
+            waits_and_backs_off(&mut bench, &frame, 1);
+            waits_and_backs_off(&mut bench, &frame, 2);
+            waits(&mut bench, &frame, 3);
+            let lost = bench.ticks;
+            assert_eq!(lost, 3 * (1_600 + wire(size)));
+            bench.quiet_ticks(499);
+            assert_eq!(bench.tick(), said("copy:4", &frame));
+            assert_eq!(bench.ticks, lost + 500);
+        }
+    }
+}
+
 #[test]
 fn a_session_waits_5000_from_its_ack_however_late() {
-    for role in BOTH {
+    for choice in CHOICES {
         for (size, last) in [(5, 1_600), (12, 1_601), (257, 1_622)] {
-            let mut bench = Bench::of(role);
+            let mut bench = Bench::of(choice);
             bench.session(7, &vec![1; size - 5]).unwrap();
             bench.quiet_ticks(last);
             assert_eq!(bench.byte(6), said("acked:1 waiting", &[]));
             bench.quiet_ticks(4_999);
-            let mut other = Bench::new();
-            other.link = bench.link.clone();
+            let mut other = bench.other();
             let response = says(rx("frame"), tx("response:1"), &[6], &[1, 7]);
             assert_eq!(other.bytes(&RES_07), response);
             assert_eq!(bench.tick(), said("noresponse:1", &[]));
@@ -292,8 +356,7 @@ fn the_frame_clock_does_not_go_by_the_size() {
     let mut bench = Bench::new();
     bench.bytes(&frame[..256]);
     bench.quiet_ticks(1_500);
-    let mut other = Bench::new();
-    other.link = bench.link.clone();
+    let mut other = bench.other();
     let body = &frame[2..256];
     assert_eq!(
         other.byte(frame[256]),
@@ -305,32 +368,53 @@ fn the_frame_clock_does_not_go_by_the_size() {
 /// Not by the one before it, nor by a longer one that was refused.
 #[test]
 fn the_wait_goes_by_the_open_frame() {
-    for role in BOTH {
+    for choice in CHOICES {
         for (before, size) in [(257, 5), (5, 257), (12, 11), (11, 12)] {
-            let (mut bench, _) = waiting(role, before);
+            let parameters = vec![0; size - 5];
+            let (mut bench, _) = waiting(choice, before);
             assert_eq!(bench.byte(6), said("acked:1", &[]));
-            bench.send(0, 7, &vec![0; size - 5]).unwrap();
+            bench.send(0, 7, &parameters).unwrap();
             assert!(bench.send(0, 7, &[0; 100]).is_err());
-            waits(&mut bench, size, 1);
-            let (mut bench, _) = waiting(role, before);
+            waits(&mut bench, &framed(0, 7, &parameters), 1);
+            let (mut bench, _) = waiting(choice, before);
             bench.restart();
             assert!(bench.send(2, 7, &[0; 100]).is_err());
             assert!(bench.session(7, &[0; 253]).is_err());
-            bench.send(1, 7, &vec![0; size - 5]).unwrap();
-            waits(&mut bench, size, 1);
+            bench.send(1, 7, &parameters).unwrap();
+            waits(&mut bench, &framed(1, 7, &parameters), 1);
         }
     }
 }
 
 #[test]
 fn a_stand_in_cancels_to_the_last_tick_of_the_wait() {
+    let cancelled = says(rx("cancelled"), tx(""), &[0x18], &[]);
     for size in 5..=257 {
-        let (mut bench, _) = waiting(Role::Module, size);
+        let (mut bench, _) = waiting(choice(Role::Module, Mode::Spaced), size);
         bench.quiet_ticks(1_599 + wire(size));
-        let cancelled = says(rx("cancelled"), tx(""), &[0x18], &[]);
         assert_eq!(bench.bytes(&REQ_07), cancelled);
         assert_eq!(bench.tick(), said("backoff:100", &[]));
         let up = says(rx("frame"), tx(""), &[6], &[0, 7]);
         assert_eq!(bench.bytes(&REQ_07), up);
+    }
+}
+
+/// In the new mode the next copy waits on that very tick, and cancels again;
+/// inside a frame it is due, and the frame is taken.
+#[test]
+fn a_stand_in_in_the_new_mode_cancels_on_the_tick_of_a_loss_unless_inside_a_frame() {
+    let cancelled = says(rx("cancelled"), tx(""), &[0x18], &[]);
+    for size in 5..=257 {
+        let (mut bench, frame) = waiting(choice(Role::Module, Mode::Sooner), size);
+        bench.quiet_ticks(1_599 + wire(size));
+        assert_eq!(bench.bytes(&REQ_07), cancelled);
+        let mut inside = bench.other();
+        assert_eq!(bench.tick(), said("copy:2", &frame));
+        assert_eq!(bench.bytes(&REQ_07), cancelled);
+        inside.bytes(&REQ_07[..4]);
+        assert_eq!(inside.tick(), said("due", &[]));
+        let line = [&[6][..], &frame].concat();
+        let up = says(rx("frame"), tx("copy:2"), &line, &[0, 7]);
+        assert_eq!(inside.byte(0xFB), up);
     }
 }

@@ -2,7 +2,7 @@
 //! bytes written beyond those reported, and a frame maker of its own.
 #![allow(dead_code)]
 
-use reference::choice::{Choice, Role};
+use reference::choice::{Choice, Mode, Role};
 use reference::link::Link;
 use reference::refusal::Refusal;
 use reference::report::{ReceptionPart, Report, ResetPart, SendingPart, SessionPart};
@@ -18,6 +18,18 @@ pub const RES_07: [u8; 5] = [0x01, 0x03, 0x01, 0x07, 0xFA];
 pub const RES_02: [u8; 5] = [0x01, 0x03, 0x01, 0x02, 0xFF];
 pub const RESERVED_07: [u8; 5] = [0x01, 0x03, 0x02, 0x07, 0xF9];
 
+/// Every choice that an opening has: both ends, each in both modes.
+pub const CHOICES: [Choice; 4] = [
+    choice(Role::Host, Mode::Sooner),
+    choice(Role::Host, Mode::Spaced),
+    choice(Role::Module, Mode::Sooner),
+    choice(Role::Module, Mode::Spaced),
+];
+
+pub const fn choice(role: Role, mode: Mode) -> Choice {
+    Choice { role, mode }
+}
+
 /// The report of a call and the bytes it put out and handed up.
 #[derive(Clone, Debug, PartialEq, Eq)]
 pub struct Said {
@@ -32,7 +44,7 @@ impl Said {
     }
 }
 
-/// A link on the bench.
+/// A link on the bench; a host in the new mode where nothing is said.
 pub struct Bench {
     pub link: Link,
     /// Ticks accepted since opening.
@@ -47,15 +59,28 @@ impl Bench {
         }
     }
 
-    /// A stand-in on the bench.
-    pub fn module() -> Bench {
-        Bench::of(Role::Module)
+    /// A host on the bench, in the old mode.
+    pub fn spaced() -> Bench {
+        Bench::of(choice(Role::Host, Mode::Spaced))
     }
 
-    pub fn of(role: Role) -> Bench {
+    /// A stand-in on the bench, in the new mode.
+    pub fn module() -> Bench {
+        Bench::of(choice(Role::Module, Mode::Sooner))
+    }
+
+    pub fn of(choice: Choice) -> Bench {
         Bench {
-            link: Link::open_as(Choice { role }),
+            link: Link::open_as(choice),
             ticks: 0,
+        }
+    }
+
+    /// Another bench with the same link, to try something on.
+    pub fn other(&self) -> Bench {
+        Bench {
+            link: self.link.clone(),
+            ticks: self.ticks,
         }
     }
 
