@@ -1,15 +1,21 @@
 -- Demand 3 over all histories, for any rules that fit, and for those that hold.
 -- Assumes nothing.
 use Prim.Native.Nat.{ℕ, _+_, _*_, _≤_}
-use mathlib.Core.Path.{_≡_, refl, subst, fun-ext}
+use mathlib.Core.Path.{_≡_, refl, subst, _∙_, fun-ext}
 use mathlib.Core.Bool.{Bool, true, false}
 use mathlib.Core.List.{List, [], _∷_, _++_}
 use native.Mathlib.Omega.{arith}
+use native.Mathlib.Nat.{add-zero}
 use lib.ListN.{length, length-append}
 use lib.Seq.{take-append-seam}
 use Rattle.frame.specs.Bytes.{over}
 use Rattle.frame.specs.Frame.{frameOf, counted, checksum}
-use Rattle.rules.specs.Rules.{Rules, usual, standIn, wireTime, rulesOf, backOffs}
+use Rattle.rules.specs.Rules.{Rules, backOffs, backBy, wireTime, ackWait, rulesOf}
+use Rattle.rules.specs.declared.Role.the-variants.{Host, Module}
+use Rattle.rules.specs.declared.Mode.{Mode}
+use Rattle.rules.specs.declared.Mode.the-variants.{Sooner, Spaced}
+use Rattle.rules.specs.declared.Cause.the-variants.{Time}
+use Rattle.rules.proofs.Theorems.{sooner-subtracts-1600}
 use Rattle.rules.specs.declared.Choice.{Choice}
 use Rattle.hearing.specs.Hearing.{isHunting}
 use Rattle.job.specs.Job.{start}
@@ -27,7 +33,7 @@ use Rattle.link.specs.declared.link.Link.{Link}
 use Rattle.history.specs.Perform.{send, session, Call, checksOf}
 use Rattle.history.specs.History.{after}
 use Rattle.history.specs.Watch.{abandonsIn, verdictOf, watch, watched}
-use Rattle.history.specs.Bound.{Fits, extra, bound}
+use Rattle.history.specs.Bound.{Fits, spare, tail, extra, bound}
 use Rattle.history.specs.Demand3.{Kept, Demand3, EverySend, EverySession, sendBound, sessionBound, HostDemand3, StandInDemand3}
 use Rattle.history.proofs.Mix.{end as finish, IsFrame, mix-answers}
 use Rattle.history.proofs.Hearing.{room, InTime}
@@ -108,27 +114,45 @@ module _ (R : Rules) (g : ℕ → ℕ) (fit : Fits R g) where
       ((accepted-is (roomChecks line up (checksOf l (session command ps))) (openOut l (Asks command) f) o e) .gave)
       (opened l (Asks command) f (in-time R h) (frame-is 0 command ps) k)
 
--- ---- the rules of sending, which the host and the stand-in share: one theorem over what was chosen
-pub rules-fit : (c : Choice) → Fits (rulesOf c) backOffs
-rules-fit c = record { wait = λ size. omega arith; late = λ n. omega arith; early = λ n. omega arith }
+-- ---- the rules of sending, which the host and the stand-in share: one theorem over what was chosen, and so over the mode
+pub rules-fit : (c : Choice) → Fits (rulesOf c) (spare (c .mode))
+rules-fit c = record { wait = λ size. omega arith; late = late (c .mode); early = early (c .mode) }
+  where
+    late : (m : Mode) (n : ℕ) → backBy m Time n ≤ spare m n
+    late Sooner n = omega (arith, sooner-subtracts-1600 n)
+    late Spaced n = omega arith
 
--- in numbers: 15,701, what a session's response takes more, and four times the time on the wire
-bound-is : (c : Choice) (a : Asking) → bound (rulesOf c) backOffs a ≡ (λ size. 15701 + extra a + 4 * wireTime size)
-bound-is c a = fun-ext (λ size. let e : bound (rulesOf c) backOffs a size ≡ 15701 + extra a + 4 * wireTime size = omega arith in e)
+    early : (m : Mode) (n : ℕ) → backOffs n ≤ spare m n + 1
+    early Sooner n = omega arith
+    early Spaced n = omega arith
 
-pub every-send : (c : Choice) → EverySend (rulesOf c) sendBound
-every-send c = subst (EverySend (rulesOf c)) (bound-is c Plain) (send-demand3 (rulesOf c) backOffs (rules-fit c))
+-- in numbers: the mode's, what a session's response takes more, and four times the time on the wire
+bound-is : (c : Choice) (a : Asking) → bound (rulesOf c) (spare (c .mode)) a ≡ (λ size. sendBound (c .mode) size + extra a)
+bound-is c a = fun-ext (λ size. by (c .mode) size)
+  where
+    by : (m : Mode) (size : ℕ) → 1501 + (ackWait size + tail (ackWait size) (spare m) 1 + extra a) ≡ sendBound m size + extra a
+    by Sooner size = omega arith
+    by Spaced size = omega arith
 
-pub every-session : (c : Choice) → EverySession (rulesOf c) sessionBound
-every-session c = subst (EverySession (rulesOf c)) (bound-is c (Asks 0)) (session-demand3 (rulesOf c) backOffs (rules-fit c))
+-- a session's is a send's and what its response takes more
+session-more : (m : Mode) (size : ℕ) → sendBound m size + extra (Asks 0) ≡ sessionBound m size
+session-more Sooner size = omega arith
+session-more Spaced size = omega arith
 
-pub host-demand3 : HostDemand3
-host-demand3 = (every-send usual, every-session usual)
+pub every-send : (c : Choice) → EverySend (rulesOf c) (sendBound (c .mode))
+every-send c = subst (EverySend (rulesOf c)) (bound-is c Plain ∙ fun-ext (λ size. add-zero (sendBound (c .mode) size))) (send-demand3 (rulesOf c) (spare (c .mode)) (rules-fit c))
 
-pub module-demand3 : StandInDemand3
-module-demand3 = (every-send standIn, every-session standIn)
+pub every-session : (c : Choice) → EverySession (rulesOf c) (sessionBound (c .mode))
+every-session c = subst (EverySession (rulesOf c)) (bound-is c (Asks 0) ∙ fun-ext (session-more (c .mode))) (session-demand3 (rulesOf c) (spare (c .mode)) (rules-fit c))
 
--- the bounds printed, of the shortest frame and of the longest
-pub bounds-printed : (sendBound 5 ≡ 15_705) × (sessionBound 5 ≡ 20_704) × (sendBound 257 ≡ 15_793) × (sessionBound 257 ≡ 20_792)
+pub host-demand3 : (m : Mode) → HostDemand3 m
+host-demand3 m = (every-send (record { role = Host; mode = m }), every-session (record { role = Host; mode = m }))
+
+pub module-demand3 : (m : Mode) → StandInDemand3 m
+module-demand3 m = (every-send (record { role = Module; mode = m }), every-session (record { role = Module; mode = m }))
+
+-- the bounds printed, of the shortest frame and of the longest: in the new mode, and in the old
+pub bounds-printed : (sendBound Sooner 5 ≡ 15_702) × (sessionBound Sooner 5 ≡ 20_701) × (sendBound Sooner 257 ≡ 15_790) × (sessionBound Sooner 257 ≡ 20_789)
+    × (sendBound Spaced 5 ≡ 15_705) × (sessionBound Spaced 5 ≡ 20_704) × (sendBound Spaced 257 ≡ 15_793) × (sessionBound Spaced 257 ≡ 20_792)
 unfolding wireTime
-bounds-printed = (refl, refl, refl, refl)
+bounds-printed = (refl, refl, refl, refl, refl, refl, refl, refl)

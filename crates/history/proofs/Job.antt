@@ -9,7 +9,9 @@ use native.Mathlib.Numerals.{add-one}
 use lib.Dec.{eqb, ltb}
 use borrow.Author.Tests.{ltb-true, ltb-false, eqb-false, lt-ltb}
 use Rattle.refusals.specs.Pick.{pick}
-use Rattle.rules.specs.Rules.{Rules, Cause, told, time}
+use Rattle.rules.specs.Rules.{Rules}
+use Rattle.rules.specs.declared.Cause.{Cause}
+use Rattle.rules.specs.declared.Cause.the-variants.{Told, Time}
 use Rattle.job.specs.Job.{goesOn, still, nextCopy, putOut, start, fail, backOff, lose}
 use Rattle.job.specs.Ticks.{awaited, onTick, onAbort}
 use Rattle.sending.specs.Events.{acknowledge, onSingle, release, awaits, copiesOf, respond, onEnd, onEvent}
@@ -163,9 +165,9 @@ module _ (R : Rules) (g : ℕ → ℕ) (fit : Fits R g) (size : ℕ) where
   single-ok s h h′ q (due k w) = absurd (q .out w)
   single-ok Ack h h′ q (waits {a} {n} {e} p k w) = ack-ok h′ _ n a p k (omega arith)
   single-ok Nak h h′ q (waits {a} {n} {e} p k w) =
-      lose-ok told true h′ _ n 0 a tt (q .small) p k (omega (arith, fit .early n)) (omega arith) (omega arith)
+      lose-ok Told true h′ _ n 0 a tt (q .small) p k (omega (arith, fit .early n)) (omega arith) (omega arith)
   single-ok Can h h′ q (waits {a} {n} {e} p k w) =
-      lose-ok told true h′ _ n 0 a tt (q .small) p k (omega (arith, fit .early n)) (omega arith) (omega arith)
+      lose-ok Told true h′ _ n 0 a tt (q .small) p k (omega (arith, fit .early n)) (omega arith) (omega arith)
   single-ok s h h′ q (backs {a} {n} {b} p k w) = holds h′ _ n 0 a (BackingOff a n b) sending.Stray refl (backs p k w) (omega arith) refl
   single-ok s h h′ q (awaiting {c} {n} {e} p k w) = holds h′ _ n 0 (Asks c) (Awaiting c n e) sending.Stray refl (awaiting p k w) (omega arith) refl
 
@@ -182,7 +184,7 @@ module _ (R : Rules) (g : ℕ → ℕ) (fit : Fits R g) (size : ℕ) where
       (λ x.
       let v : e + 1 < R .wait size = ltb-true _ _ x in
       holds h′ _ n 1 a (Waiting a n (e + 1)) sending.Nothing refl (waits p k v) (omega arith) refl)
-      (λ x. lose-ok time hunting h′ _ n 1 a i r p k (omega (arith, fit .late n)) (omega arith) (omega arith))
+      (λ x. lose-ok Time hunting h′ _ n 1 a i r p k (omega (arith, fit .late n)) (omega arith) (omega arith))
 
   back-ok : (hunting : Bool) (h h′ : Hearing) (a : Asking) (n b : ℕ) → StillInsideIf hunting h′ → room h′ ≤ 1500 → 0 < n → n < 4 → 0 < b
       → C h′ (left R g size h (BackingOff a n b)) n 1 a (onTick R size hunting (BackingOff a n b))

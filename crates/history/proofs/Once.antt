@@ -8,7 +8,9 @@ use native.Mathlib.Omega.{arith}
 use lib.Dec.{eqb, ltb}
 use lib.ListN.{length, take, replicate}
 use Rattle.refusals.specs.Pick.{pick}
-use Rattle.rules.specs.Rules.{Rules, Cause, told, time}
+use Rattle.rules.specs.Rules.{Rules}
+use Rattle.rules.specs.declared.Cause.{Cause}
+use Rattle.rules.specs.declared.Cause.the-variants.{Told, Time}
 use Rattle.job.specs.Job.{start, fail, lose}
 use Rattle.job.specs.Ticks.{onTick, onAbort}
 use Rattle.hearing.specs.Hearing.{hearByte, hearTick}
@@ -73,8 +75,8 @@ single-unsaid : (R : Rules) (s : Single) (j : Job) → Unsaid (onSingle R s j)
 single-unsaid R s Idle = refl
 single-unsaid R s (Due a n) = refl
 single-unsaid R Ack (Waiting a n e) = ack-unsaid a n
-single-unsaid R Nak (Waiting a n e) = lose-unsaid R told true a n
-single-unsaid R Can (Waiting a n e) = lose-unsaid R told true a n
+single-unsaid R Nak (Waiting a n e) = lose-unsaid R Told true a n
+single-unsaid R Can (Waiting a n e) = lose-unsaid R Told true a n
 single-unsaid R s (BackingOff a n b) = refl
 single-unsaid R s (Awaiting c n e) = refl
 
@@ -95,7 +97,7 @@ end-unsaid (end.Response size command) j = pick-ok Unsaid (awaits command j) _ _
 time-unsaid : (R : Rules) (size : ℕ) (hunting : Bool) (j : Job) → Unsaid (onTick R size hunting j)
 time-unsaid R size hunting Idle = refl
 time-unsaid R size hunting (Due a n) = refl
-time-unsaid R size hunting (Waiting a n e) = pick-ok Unsaid (ltb (e + 1) (R .wait size)) _ _ refl (lose-unsaid R time hunting a n)
+time-unsaid R size hunting (Waiting a n e) = pick-ok Unsaid (ltb (e + 1) (R .wait size)) _ _ refl (lose-unsaid R Time hunting a n)
 time-unsaid R size hunting (BackingOff a n b) = pick-ok Unsaid (ltb 1 b) _ _ refl (start-unsaid hunting a n)
 time-unsaid R size hunting (Awaiting c n e) = pick-ok Unsaid (ltb (e + 1) 5000) _ _ refl refl
 

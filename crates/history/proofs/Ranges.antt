@@ -13,7 +13,10 @@ use Rattle.frame.specs.Frame.{MAX_BODY, frameOf}
 use Rattle.frame.proofs.Over.{over-length}
 use Rattle.frame.proofs.Theorems.{frame-bounds}
 use Rattle.rules.specs.declared.Choice.{Choice}
-use Rattle.rules.specs.Rules.{Rules, Cause, told, time, rulesOf, backOffs}
+use Rattle.rules.specs.Rules.{Rules, rulesOf}
+use Rattle.rules.specs.declared.Cause.{Cause}
+use Rattle.rules.specs.declared.Cause.the-variants.{Told, Time}
+use Rattle.rules.proofs.Theorems.{back-at-most-2100}
 use Rattle.hearing.specs.Hearing.{hearByte, hearTick, hunted, isHunting}
 use Rattle.hearing.proofs.Theorems.{keep-length}
 use Rattle.job.specs.Job.{start, lose}
@@ -40,7 +43,7 @@ use Rattle.link.specs.declared.link.Link.{Link}
 use Rattle.history.specs.Perform.{Call}
 use Rattle.history.specs.History.{after}
 use Rattle.history.specs.Watch.{Says, none, says, both, verdictOf}
-use Rattle.history.specs.Bound.{Fits}
+use Rattle.history.specs.Bound.{Fits, spare}
 use Rattle.history.specs.Ranges.{ComeAll, IsByte, HearingIn, IsInside, JobIn, InRange}
 use Rattle.history.proofs.Hearing.{StillInside, InTime, byte-steps, tick-steps}
 use Rattle.refusals.proofs.Picks.{pick-by, pick-ok}
@@ -230,8 +233,8 @@ module _ (R : Rules) (most : ℕ) (longest : (cause : Cause) (n : ℕ) → R .ba
   single-short s (Due a n) k = tt
   single-short Ack (Waiting Plain n e) k = tt
   single-short Ack (Waiting (Asks c) n e) k = tt
-  single-short Nak (Waiting a n e) k = lose-short told true a n
-  single-short Can (Waiting a n e) k = lose-short told true a n
+  single-short Nak (Waiting a n e) k = lose-short Told true a n
+  single-short Can (Waiting a n e) k = lose-short Told true a n
   single-short s (BackingOff a n b) k = k
   single-short s (Awaiting c n e) k = tt
 
@@ -252,7 +255,7 @@ module _ (R : Rules) (most : ℕ) (longest : (cause : Cause) (n : ℕ) → R .ba
   tick-short : (size : ℕ) (hunting : Bool) (j : Job) → Short most j → S (onTick R size hunting j)
   tick-short size hunting Idle k = tt
   tick-short size hunting (Due a n) k = tt
-  tick-short size hunting (Waiting a n e) k = pick-ok S (ltb (e + 1) (R .wait size)) _ _ tt (lose-short time hunting a n)
+  tick-short size hunting (Waiting a n e) k = pick-ok S (ltb (e + 1) (R .wait size)) _ _ tt (lose-short Time hunting a n)
   tick-short size hunting (BackingOff a n b) k = pick-ok S (ltb 1 b) _ _ (omega arith) (start-short hunting a n)
   tick-short size hunting (Awaiting c n e) k = pick-ok S (ltb (e + 1) 5000) _ _ tt tt
 
@@ -315,7 +318,4 @@ in-range-by R g fit most longest h x =
 
 -- On links reached from opening no guard is ever met: the rules that hold, whose longest back-off is 2,100 ticks.
 pub in-range : (c : Choice) (h : List Call) → ComeAll IsByte h → InRange (rulesOf c) 2100 (after (rulesOf c) h)
-in-range c h x = in-range-by (rulesOf c) backOffs (rules-fit c) 2100 longest h x
-  where
-    longest : (cause : Cause) (n : ℕ) → backOffs n ≤ 2100
-    longest cause n = pick-ok (λ (t : ℕ). t ≤ 2100) (eqb n 1) _ _ (omega arith) (pick-ok (λ (t : ℕ). t ≤ 2100) (eqb n 2) _ _ (omega arith) (omega arith))
+in-range c h x = in-range-by (rulesOf c) (spare (c .mode)) (rules-fit c) 2100 (back-at-most-2100 (c .mode)) h x

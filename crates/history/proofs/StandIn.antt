@@ -2,6 +2,7 @@
 --     cancels-frame                        a frame of Type 00 or 01 that ends while it waits for an ACK
 --     byte-as-host, run-as-host            any byte and any run, unless it waits for an ACK
 --     tick-as-host                         any tick
+--     stand-ins-host                       the host that it is: of the same mode
 -- A send, a session and a restart ask for no rules: they are the same by definition.
 -- Assumes nothing.
 use Prim.Native.Nat.{ℕ, zero, suc, _+_, _≤_}
@@ -14,7 +15,8 @@ use borrow.Author.Tests.{eq-eqb}
 use Rattle.refusals.specs.Pick.{pick}
 use Rattle.refusals.proofs.Picks.{pick-ok}
 use Rattle.frame.specs.Frame.{RES}
-use Rattle.rules.specs.Rules.{Rules, usual}
+use Rattle.rules.specs.Rules.{Rules, rulesOf}
+use Rattle.rules.specs.declared.Mode.{Mode}
 use Rattle.rules.specs.declared.Role.{Role}
 use Rattle.rules.specs.declared.Role.the-variants.{Host, Module}
 use Rattle.hearing.specs.Hearing.{heard, hearByte, hearTick, later, ended}
@@ -95,7 +97,7 @@ said-alike Host e j q = refl
 said-alike Module e j q = alike e (awaitedBy j) q
 
 decide-alike : (R : Rules) (size : ℕ) (e : Event) (j : Job) (bad : ℕ) → cancelsNow R j ≡ false → decide R size e j bad ≡ decide (hostOf R) size e j bad
-decide-alike R size e j bad q = ap₂ (λ (s : Said) (x : Act). decided s (sumsOn e bad) x) (said-alike (R .choice .role) e j q) (event-alike R usual size e j)
+decide-alike R size e j bad q = ap₂ (λ (s : Said) (x : Act). decided s (sumsOn e bad) x) (said-alike (R .choice .role) e j q) (event-alike R (hostOf R .choice) size e j)
 
 heard-alike : (R : Rules) (k : Core) (body frame : List ℕ) (h : Heard) → cancelsNow R (k .job) ≡ false → heardOut R k body frame h ≡ heardOut (hostOf R) k body frame h
 heard-alike R k body frame h q = ap (λ (o : Outcome). out body frame (h .hearing) (k .size) (k .choice) o) (decide-alike R (k .size) (h .event) (k .job) (k .bad) q)
@@ -121,4 +123,8 @@ tick-as-host R l =
     let k = l .core in
     let h = hearTick (k .hearing) in
     ap (λ (o : Outcome). out (l .body) (l .frame) (h .hearing) (k .size) (k .choice) o)
-    (ap₂ (λ (s : Said) (x : Act). decided s (sumsOn (h .event) (k .bad)) x) (tick-said (R .choice .role) (k .hearing) (k .job)) (event-alike R usual (k .size) (h .event) (k .job)))
+    (ap₂ (λ (s : Said) (x : Act). decided s (sumsOn (h .event) (k .bad)) x) (tick-said (R .choice .role) (k .hearing) (k .job)) (event-alike R (hostOf R .choice) (k .size) (h .event) (k .job)))
+
+-- The stand-in has the modes too: the host that it is in all else is the host of its mode.
+pub stand-ins-host : (m : Mode) → hostOf (rulesOf (record { role = Module; mode = m })) ≡ rulesOf (record { role = Host; mode = m })
+stand-ins-host m = refl

@@ -32,19 +32,20 @@ pub has-verdict : (R : Rules) (a : Asking) (f : List ℕ) (bound : ℕ) (o : Out
     → bound ≤ ticksIn R (o .link) h → restartsIn R (o .link) h ≡ 0 → HasVerdict R a f bound o h
 has-verdict R a f bound o h d t r = has R a f bound o h (watched R a o h) refl (d .kept) (d .comes t) (d .restarted r) (d .said) (d .spent)
 
--- any send, of the host or the stand-in, after any history, by the 15,701st tick and four times its frame's time on the wire
+-- any send, of the host or the stand-in, in either mode, after any history: by the 15,698th tick, in the old mode the 15,701st, and four times its
+-- frame's time on the wire
 pub send-has-verdict : (c : Choice) (h k : List Call) (line up kind command : ℕ) (ps : List ℕ) (o : Out)
     → perform (rulesOf c) (after (rulesOf c) h) (record { what = send kind command ps; line = line; up = up }) ≡ took o
-    → sendBound (length (frameOf kind command ps)) ≤ ticksIn (rulesOf c) (o .link) k → restartsIn (rulesOf c) (o .link) k ≡ 0 → HasVerdict (rulesOf c) Plain (frameOf kind command ps) (sendBound (length (frameOf kind command ps))) o k
+    → sendBound (c .mode) (length (frameOf kind command ps)) ≤ ticksIn (rulesOf c) (o .link) k → restartsIn (rulesOf c) (o .link) k ≡ 0 → HasVerdict (rulesOf c) Plain (frameOf kind command ps) (sendBound (c .mode) (length (frameOf kind command ps))) o k
 send-has-verdict c h k line up kind command ps o e t r =
-    has-verdict (rulesOf c) Plain (frameOf kind command ps) (sendBound (length (frameOf kind command ps))) o k (every-send c h k line up kind command ps o e) t r
+    has-verdict (rulesOf c) Plain (frameOf kind command ps) (sendBound (c .mode) (length (frameOf kind command ps))) o k (every-send c h k line up kind command ps o e) t r
 
--- any session, by the 20,700th and as much
+-- any session: by the 20,697th, in the old mode the 20,700th, and as much
 pub session-has-verdict : (c : Choice) (h k : List Call) (line up command : ℕ) (ps : List ℕ) (o : Out)
     → perform (rulesOf c) (after (rulesOf c) h) (record { what = session command ps; line = line; up = up }) ≡ took o
-    → sessionBound (length (frameOf REQ command ps)) ≤ ticksIn (rulesOf c) (o .link) k → restartsIn (rulesOf c) (o .link) k ≡ 0 → HasVerdict (rulesOf c) (Asks command) (frameOf REQ command ps) (sessionBound (length (frameOf REQ command ps))) o k
+    → sessionBound (c .mode) (length (frameOf REQ command ps)) ≤ ticksIn (rulesOf c) (o .link) k → restartsIn (rulesOf c) (o .link) k ≡ 0 → HasVerdict (rulesOf c) (Asks command) (frameOf REQ command ps) (sessionBound (c .mode) (length (frameOf REQ command ps))) o k
 session-has-verdict c h k line up command ps o e t r =
-    has-verdict (rulesOf c) (Asks command) (frameOf REQ command ps) (sessionBound (length (frameOf REQ command ps))) o k (every-session c h k line up command ps o e) t r
+    has-verdict (rulesOf c) (Asks command) (frameOf REQ command ps) (sessionBound (c .mode) (length (frameOf REQ command ps))) o k (every-session c h k line up command ps o e) t r
 
 -- A failure follows exactly four: failed, and not sent.
 pub failed-four : (a : Asking) (f : List ℕ) (bound n t : ℕ) (l : List ℕ) → Ended a f bound (failed n) t l → n ≡ 4

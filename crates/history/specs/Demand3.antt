@@ -6,7 +6,10 @@ use mathlib.Core.Path.{_≡_}
 use mathlib.Core.List.{List}
 use lib.ListN.{length, replicate}
 use Rattle.frame.specs.Frame.{frameOf, REQ}
-use Rattle.rules.specs.Rules.{Rules, standIn, wireTime, rulesOf, base}
+use Rattle.rules.specs.Rules.{Rules, wireTime, rulesOf}
+use Rattle.rules.specs.declared.Role.the-variants.{Host, Module}
+use Rattle.rules.specs.declared.Mode.{Mode}
+use Rattle.rules.specs.declared.Mode.the-variants.{Sooner, Spaced}
 use Rattle.link.specs.Out.{Out}
 use Rattle.job.specs.declared.job.Asking.{Asking}
 use Rattle.job.specs.declared.job.Asking.the-variants.{Plain, Asks}
@@ -95,20 +98,25 @@ EverySession R bound =
     → perform R (after R h) (record { what = session command ps; line = line; up = up }) ≡ took o
     → Demand3 R (Asks command) (frameOf REQ command ps) (bound (length (frameOf REQ command ps))) o k
 
--- the verdict comes by accepted tick 15,701 after acceptance, and four times the frame's time on the wire later
-abbrev pub sendBound : ℕ → ℕ
-sendBound size = 15701 + 4 * wireTime size
+-- The verdict comes by accepted tick 15,701 after acceptance, and four times the frame's time on the wire later; in the new mode by tick 15,698 and as
+-- much later, because a NAK can come one tick before the timeout.
+abbrev pub sendBound : Mode → ℕ → ℕ
+sendBound Sooner size = 15698 + 4 * wireTime size
+sendBound Spaced size = 15701 + 4 * wireTime size
 
--- a session: by tick 20,700, and as much later
-abbrev pub sessionBound : ℕ → ℕ
-sessionBound size = 20700 + 4 * wireTime size
+-- a session: by tick 20,697, by tick 20,700, and as much later
+abbrev pub sessionBound : Mode → ℕ → ℕ
+sessionBound Sooner size = 20697 + 4 * wireTime size
+sessionBound Spaced size = 20700 + 4 * wireTime size
 
--- of the host, and of the stand-in
-abbrev pub HostDemand3 : Type 0
-HostDemand3 = EverySend base sendBound × EverySession base sessionBound
+-- of the host, and of the stand-in, in each mode
+abbrev pub HostDemand3 : Mode → Type 0
+HostDemand3 m =
+    EverySend (rulesOf (record { role = Host; mode = m })) (sendBound m) × EverySession (rulesOf (record { role = Host; mode = m })) (sessionBound m)
 
-abbrev pub StandInDemand3 : Type 0
-StandInDemand3 = EverySend (rulesOf standIn) sendBound × EverySession (rulesOf standIn) sessionBound
+abbrev pub StandInDemand3 : Mode → Type 0
+StandInDemand3 m =
+    EverySend (rulesOf (record { role = Module; mode = m })) (sendBound m) × EverySession (rulesOf (record { role = Module; mode = m })) (sessionBound m)
 
 -- Demand 3 in one sentence, of a send or session that was accepted and had so many ticks, with no restart: it has its verdict, one of its own
 -- and no second; the frames put out until another is accepted are the copies that the verdict says, at most four, and after a failure exactly four.

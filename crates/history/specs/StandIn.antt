@@ -5,7 +5,8 @@ use mathlib.Core.Path.{_≡_}
 use mathlib.Core.Bool.{true}
 use mathlib.Core.List.{[], _∷_}
 use Rattle.frame.specs.Frame.{CAN}
-use Rattle.rules.specs.Rules.{Rules, usual, chosen}
+use Rattle.rules.specs.Rules.{Rules, chosen}
+use Rattle.rules.specs.declared.Role.the-variants.{Host}
 use Rattle.hearing.specs.declared.hearing.Hearing.the-variants.{Hunting}
 use Rattle.report.specs.declared.Reception.the-variants as reception
 use Rattle.report.specs.declared.Reset.the-variants as reset
@@ -29,6 +30,6 @@ pub record Cancels (l : Link) (o : Out) : Type 0 where
   -- a run of bytes stops behind that byte
   pub news : news o ≡ true
 
--- the same rules of sending, for a host
+-- the same rules of sending, for a host in the same mode
 abbrev pub hostOf : Rules → Rules
-hostOf R = chosen usual R
+hostOf R = chosen (record { role = Host; mode = R .choice .mode }) R

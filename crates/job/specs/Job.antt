@@ -4,7 +4,8 @@ use Prim.Native.Nat.{ℕ, _+_}
 use mathlib.Core.Bool.{Bool, true, false}
 use lib.Dec.{ltb, eqb}
 use Rattle.refusals.specs.Pick.{pick}
-use Rattle.rules.specs.Rules.{Rules, Cause}
+use Rattle.rules.specs.Rules.{Rules}
+use Rattle.rules.specs.declared.Cause.{Cause}
 use Rattle.units.specs.declared.Millis.{Millis}
 use Rattle.report.specs.declared.Sending.{Sending}
 use Rattle.report.specs.declared.Sending.the-variants as sending
@@ -51,7 +52,7 @@ fail a n = record { job = Idle; sending = sending.Failed n; session = notSent a 
 abbrev pub backingOff : Millis → Asking → ℕ → Act
 backingOff time a n = goesOn (BackingOff a n (time .0)) (sending.BackingOff time)
 
--- Back off so many ticks; 0 is none, which the rules that hold never give.
+-- Back off so many ticks. "With 0 the next copy goes out on that same tick, or becomes due" (document 02, P4).
 abbrev pub backOff : ℕ → Bool → Asking → ℕ → Act
 backOff ticks hunting a n = pick (eqb ticks 0) (start hunting a n) (backingOff (record { 0 = ticks }) a n)
 

@@ -4,7 +4,8 @@ use Prim.Native.Nat.{ℕ, _+_, _-_}
 use mathlib.Core.Bool.{Bool, true, false}
 use lib.Dec.{ltb}
 use Rattle.refusals.specs.Pick.{pick}
-use Rattle.rules.specs.Rules.{Rules, time}
+use Rattle.rules.specs.Rules.{Rules}
+use Rattle.rules.specs.declared.Cause.the-variants.{Time}
 use Rattle.job.specs.Job.{still, putOut, start, lose}
 use Rattle.report.specs.declared.Sending.the-variants as sending
 use Rattle.report.specs.declared.Session.the-variants as session
@@ -16,7 +17,7 @@ use Rattle.job.specs.declared.job.Act.{Act}
 
 -- Each later tick adds 1 to the wait; at the rule's number the copy is lost.
 abbrev pub waited : Rules → ℕ → Bool → Asking → ℕ → ℕ → Act
-waited R size hunting a n e = pick (ltb e (R .wait size)) (still (Waiting a n e)) (lose R time hunting a n)
+waited R size hunting a n e = pick (ltb e (R .wait size)) (still (Waiting a n e)) (lose R Time hunting a n)
 
 -- The tick that ends a back-off puts the next copy out if hunting, else it becomes due.
 abbrev pub backed : Bool → Asking → ℕ → ℕ → Act

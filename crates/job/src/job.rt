@@ -2,11 +2,14 @@
 use report::Reset;
 use report::Sending;
 use report::Session;
+use rules::Cause;
+use rules::Choice;
+use rules::Mode;
 use units::Millis;
 ghost use mathlib.Core.Path.{_≡_};
-ghost use mathlib.Core.Bool.{Bool};
 ghost use Prim.Native.Nat.{_<_};
-ghost use Rattle.rules.specs.Rules.{base, Cause};
+ghost use Rattle.rules.specs.Rules.{byCopy, backOffs, soonerOffs, backBy, rulesOf};
+ghost use Rattle.rules.specs.declared.Cause.the-variants.{Time};
 ghost use Rattle.job.specs.Job as spec;
 
 // Whether the open send is a session, and then which command it asks for.
@@ -50,6 +53,12 @@ impl Job {
     pub const BACK_OFF_2: Millis = Millis(1100);
 
     pub const BACK_OFF_3: Millis = Millis(2100);
+    // And less the 1,600 ms already waited: in the new mode, where the copy was lost by time.
+    pub const SOONER_1: Millis = Millis(0);
+
+    pub const SOONER_2: Millis = Millis(0);
+
+    pub const SOONER_3: Millis = Millis(500);
 }
 
 pub struct Act {
@@ -156,20 +165,74 @@ fn backing_off(time: Millis, asking: Asking, copies: u8) -> Act
     )
 }
 
-// The copy is given up. Neither the cause nor hunting matters: both causes have the same back-offs, and none is 0.
-pub fn lose(asking: Asking, copies: u8) -> Act
-    ensures { λ r. ⌜ ((cause : Cause) (hunting : Bool) → r ≡ spec.lose base cause hunting asking copies) ⌝ }
+// Backs off so many ticks. With 0 there is no back-off: the next copy goes out at once if hunting, else it is due.
+fn back_off(time: Millis, hunting: bool, asking: Asking, copies: u8) -> Act
+    requires { ⌜ time .0 < 65536 ⌝ }
+    ensures { λ r. ⌜ r ≡ spec.backOff (time .0) hunting asking copies ⌝ }
+{
+    if time.0 == 0 {
+        return start(hunting, asking, copies);
+    }
+    backing_off(time, asking, copies)
+}
+
+// One of three times: after copy 1, after copy 2, after copy 3.
+fn by_copy(copies: u8, first: Millis, second: Millis, third: Millis) -> Millis
+    ensures { λ r. ⌜ r .0 ≡ byCopy (first .0) (second .0) (third .0) copies ⌝ }
+{
+    if copies == 1 {
+        return first;
+    }
+    if copies == 2 {
+        return second;
+    }
+    third
+}
+
+// The back-off in full.
+fn in_full(copies: u8) -> Millis
+    ensures { λ r. ⌜ r .0 ≡ backOffs copies ⌝ }
+{
+    by_copy(copies, Job::BACK_OFF_1, Job::BACK_OFF_2, Job::BACK_OFF_3)
+}
+
+// And less what was already waited.
+fn sooner(copies: u8) -> Millis
+    ensures { λ r. ⌜ r .0 ≡ soonerOffs copies ⌝ }
+{
+    by_copy(copies, Job::SOONER_1, Job::SOONER_2, Job::SOONER_3)
+}
+
+// The back-off after a loss by time, by the mode.
+fn after_silence(mode: Mode, copies: u8) -> Millis
+    ensures { λ r. ⌜ r .0 ≡ backBy mode Time copies ⌝ }
+{
+    match mode {
+        Mode::Sooner => sooner(copies),
+        Mode::Spaced => in_full(copies),
+    }
+}
+
+// The back-off by the mode and the cause: 15 and 18 have it in full.
+fn back_off_after(mode: Mode, cause: Cause, copies: u8) -> Millis
+    ensures { λ r. ⌜ r .0 ≡ backBy mode cause copies ⌝ }
+{
+    match cause {
+        Cause::Told => in_full(copies),
+        Cause::Time => after_silence(mode, copies),
+    }
+}
+
+// The copy is given up: after copies 1, 2 and 3 the sender backs off, after copy 4 the send has failed.
+pub fn lose(choice: Choice, cause: Cause, hunting: bool, asking: Asking, copies: u8) -> Act
+    ensures { λ r. ⌜ r ≡ spec.lose (rulesOf choice) cause hunting asking copies ⌝ }
 {
     if 4 <= copies {
         return fail(asking, copies);
     }
-    if copies == 1 {
-        return backing_off(Job::BACK_OFF_1, asking, copies);
-    }
-    if copies == 2 {
-        return backing_off(Job::BACK_OFF_2, asking, copies);
-    }
-    backing_off(Job::BACK_OFF_3, asking, copies)
+    let mode = choice.mode;
+    let time = back_off_after(mode, cause, copies);
+    back_off(time, hunting, asking, copies)
 }
 
 // A send or session is open.

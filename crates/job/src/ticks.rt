@@ -10,16 +10,18 @@ use crate::wire::wire_time;
 use report::Reset;
 use report::Sending;
 use report::Session;
+use rules::Cause;
+use rules::Choice;
 use units::Millis;
 ghost use mathlib.Core.Path.{_≡_};
 ghost use Prim.Native.Nat.{_+_};
 ghost use lib.Dec.{ltb};
-ghost use Rattle.rules.specs.Rules.{base};
+ghost use Rattle.rules.specs.Rules.{ackWait, rulesOf};
 ghost use Rattle.job.specs.Ticks as spec;
 
 // How long a copy of so many bytes waits for its ACK: its time on the wire, and the wait behind it.
 fn ack_wait(size: u16) -> Millis
-    ensures { λ r. ⌜ r .0 ≡ base .wait size ⌝ }
+    ensures { λ r. ⌜ r .0 ≡ ackWait size ⌝ }
 {
     let wire = wire_time(size);
     let behind = Job::ACK_WAIT;
@@ -28,7 +30,7 @@ fn ack_wait(size: u16) -> Millis
 
 // Whether a copy that has waited so long still waits. No copy waits less than `ACK_WAIT`, so before that the list is not read.
 fn still_waits(size: u16, elapsed: u32) -> bool
-    ensures { λ r. ⌜ r ≡ ltb elapsed (base .wait size) ⌝ }
+    ensures { λ r. ⌜ r ≡ ltb elapsed (ackWait size) ⌝ }
 {
     let behind = Job::ACK_WAIT;
     if elapsed < behind.0 {
@@ -39,8 +41,8 @@ fn still_waits(size: u16, elapsed: u32) -> bool
 }
 
 // A tick while waiting for the ACK.
-fn waited(size: u16, hunting: bool, asking: Asking, copies: u8, elapsed: u16) -> Act
-    ensures { λ r. ⌜ r ≡ spec.waited base size hunting asking copies (elapsed + 1) ⌝ }
+fn waited(choice: Choice, size: u16, hunting: bool, asking: Asking, copies: u8, elapsed: u16) -> Act
+    ensures { λ r. ⌜ r ≡ spec.waited (rulesOf choice) size hunting asking copies (elapsed + 1) ⌝ }
 {
     let waits = still_waits(size, (elapsed as u32) + 1);
     if waits {
@@ -53,7 +55,7 @@ fn waited(size: u16, hunting: bool, asking: Asking, copies: u8, elapsed: u16) ->
             Sending::Nothing,
         );
     }
-    lose(asking, copies)
+    lose(choice, Cause::Time, hunting, asking, copies)
 }
 
 // A tick of a back-off.
@@ -98,8 +100,8 @@ fn awaited(command: u8, copies: u8, elapsed: u16) -> Act
 }
 
 // The sender's and the session's part of a tick that aborts no frame.
-pub fn on_tick(size: u16, hunting: bool, job: Job) -> Act
-    ensures { λ r. ⌜ r ≡ spec.onTick base size hunting job ⌝ }
+pub fn on_tick(choice: Choice, size: u16, hunting: bool, job: Job) -> Act
+    ensures { λ r. ⌜ r ≡ spec.onTick (rulesOf choice) size hunting job ⌝ }
 {
     match job {
         Job::Idle
@@ -111,7 +113,7 @@ pub fn on_tick(size: u16, hunting: bool, job: Job) -> Act
             asking,
             copies,
             elapsed,
-        } => waited(size, hunting, asking, copies, elapsed),
+        } => waited(choice, size, hunting, asking, copies, elapsed),
         Job::BackingOff {
             asking,
             copies,
@@ -126,11 +128,11 @@ pub fn on_tick(size: u16, hunting: bool, job: Job) -> Act
 }
 
 // And of one that does: a due copy goes out, with its wait at 0.
-pub fn on_abort(size: u16, job: Job) -> Act
-    ensures { λ r. ⌜ r ≡ spec.onAbort base size job ⌝ }
+pub fn on_abort(choice: Choice, size: u16, job: Job) -> Act
+    ensures { λ r. ⌜ r ≡ spec.onAbort (rulesOf choice) size job ⌝ }
 {
     if let Job::Due { asking, copies } = job {
         return put_out(asking, copies);
     }
-    on_tick(size, true, job)
+    on_tick(choice, size, true, job)
 }

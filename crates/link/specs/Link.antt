@@ -37,4 +37,8 @@ timings =
       «back_off_1» = millis 100;
       «back_off_2» = millis 1100;
       «back_off_3» = millis 2100;
+      -- After a loss by timeout, in the new mode: 0, 0, 500.
+      «sooner_1» = millis 0;
+      «sooner_2» = millis 0;
+      «sooner_3» = millis 500;
     }

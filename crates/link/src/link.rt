@@ -27,6 +27,10 @@ pub struct Timings {
     pub back_off_1: Millis,
     pub back_off_2: Millis,
     pub back_off_3: Millis,
+    // And where the 1,600 ms already waited are subtracted.
+    pub sooner_1: Millis,
+    pub sooner_2: Millis,
+    pub sooner_3: Millis,
 }
 
 impl Link {
@@ -42,8 +46,14 @@ impl Link {
     pub const BACK_OFF_2: Millis = Job::BACK_OFF_2;
 
     pub const BACK_OFF_3: Millis = Job::BACK_OFF_3;
+    // And those after silence in the new mode (document 02, P4).
+    pub const SOONER_1: Millis = Job::SOONER_1;
 
-    // Opening: a fresh link, and nothing is put out. Without a choice it is the host.
+    pub const SOONER_2: Millis = Job::SOONER_2;
+
+    pub const SOONER_3: Millis = Job::SOONER_3;
+
+    // Opening: a fresh link, and nothing is put out. Without a choice it is the host, in the new mode.
     pub fn open() -> Self
         ensures { λ r. ⌜ r ≡ freshLink usual ⌝ }
     {
@@ -63,7 +73,7 @@ impl Link {
         }
     }
 
-    // The six constants. Each is document 01's number by this promise.
+    // The nine constants. Each is the documents' number by this promise.
     pub fn timings() -> Timings
         ensures { λ r. ⌜ r ≡ timings ⌝ }
     {
@@ -73,6 +83,9 @@ impl Link {
         let back_off_1 = Link::BACK_OFF_1;
         let back_off_2 = Link::BACK_OFF_2;
         let back_off_3 = Link::BACK_OFF_3;
+        let sooner_1 = Link::SOONER_1;
+        let sooner_2 = Link::SOONER_2;
+        let sooner_3 = Link::SOONER_3;
         Timings {
             frame_time: frame_time,
             ack_wait: ack_wait,
@@ -80,6 +93,9 @@ impl Link {
             back_off_1: back_off_1,
             back_off_2: back_off_2,
             back_off_3: back_off_3,
+            sooner_1: sooner_1,
+            sooner_2: sooner_2,
+            sooner_3: sooner_3,
         }
     }
 }

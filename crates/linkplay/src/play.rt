@@ -2,6 +2,7 @@
 use crate::link_calls::End;
 use crate::link_calls::Turn;
 use crate::link_calls::on_end;
+use crate::verbs::Opening;
 use crate::verbs::Verb;
 use crate::verbs::asked_of;
 use crate::verbs::on_line;
@@ -19,6 +20,7 @@ use orders::call_at;
 use orders::times_of;
 use orders::within;
 use rules::Choice;
+use rules::Mode;
 use rules::Role;
 use script::Order;
 use script::flush;
@@ -57,37 +59,75 @@ pub struct Player {
     pub is_over: bool,
 }
 
-fn nothing_put_out() -> [Pending; 2] {
-    let nothing = Pending {
+fn nothing_put_out() -> Pending {
+    Pending {
         count: 0,
         is_lost: false,
-    };
-    [nothing; 2]
+    }
 }
 
+fn role_of(place: usize) -> Role {
+    if place == HOST {
+        return Role::Host;
+    }
+    Role::Module
+}
+
+// The mode that an opening names, else that of a link opened without a choice.
+fn mode_of(opening: Opening) -> Mode {
+    let usual = Choice::usual();
+    match opening {
+        Opening::Unsaid => usual.mode,
+        Opening::Sooner => Mode::Sooner,
+        Opening::Spaced => Mode::Spaced,
+    }
+}
+
+// A fresh link for an end: the host's, where nothing is named, without a choice.
+fn link_opened(place: usize, opening: Opening) -> Link {
+    let choice = Choice {
+        role: role_of(place),
+        mode: mode_of(opening),
+    };
+    if place == HOST {
+        if let Opening::Unsaid = opening {
+            return Link::open();
+        }
+    }
+    Link::open_as(choice)
+}
+
+fn end_opened(place: usize, opening: Opening) -> End {
+    End {
+        link: link_opened(place, opening),
+        ticks: 0,
+    }
+}
+
+// A play begins as after `open` and `module open`.
 fn opened() -> Player {
-    let role = Role::Module;
-    let choice = Choice { role: role };
-    let host = Link::open();
-    let module = Link::open_as(choice);
+    let host = end_opened(HOST, Opening::Unsaid);
+    let module = end_opened(MODULE, Opening::Unsaid);
+    let nothing = nothing_put_out();
     Player {
-        ends: [
-            End {
-                link: host,
-                ticks: 0,
-            },
-            End {
-                link: module,
-                ticks: 0,
-            },
-        ],
-        pending: nothing_put_out(),
+        ends: [host, module],
+        pending: [nothing; 2],
         line: LINE_ROOM,
         up: MAX_BODY,
         waiting: 0,
         begun: 0,
         is_over: false,
     }
+}
+
+// An end opened anew. What it had put out is dropped, and with it that some of it was lost.
+fn opened_anew(place: usize, opening: Opening, player: Player) -> Player
+    requires { ⌜ place < 2 ⌝ }
+{
+    let mut next = player;
+    next.ends[place] = end_opened(place, opening);
+    next.pending[place] = nothing_put_out();
+    next
 }
 
 // The calls that an order asks of an end, at most so many.
@@ -161,7 +201,7 @@ fn pass(player: Player, kept: &mut [u8], out: &mut [u8]) -> Player {
     let k = take(pending[MODULE], behind(kept, KEPT_OF_ONE), &mut answered);
     let nothing = nothing_put_out();
     let mut next = player;
-    next.pending = nothing;
+    next.pending = [nothing; 2];
     next.waiting = put_lost(pending, out, player.waiting);
     next = on_link(MODULE, LinkVerb::Bytes, n, &asked[0..n], next, kept, out);
     on_link(HOST, LinkVerb::Bytes, k, &answered[0..k], next, kept, out)
@@ -184,6 +224,9 @@ fn carry(
         let times = times_of(call, order.number) as usize;
         return on_link(place, call, times, bytes, player, kept, out);
     }
+    if let Verb::Open(opening) = verb {
+        return opened_anew(place, opening, player);
+    }
     if let Verb::Pass = verb {
         return pass(player, kept, out);
     }
@@ -196,7 +239,7 @@ fn carry(
         Verb::Other => {
             next.waiting = on_other(verbs, order, bytes, out, player.waiting);
         }
-        Verb::Link(_) | Verb::Pass | Verb::Blank => {}
+        Verb::Link(_) | Verb::Open(_) | Verb::Pass | Verb::Blank => {}
     }
     next
 }

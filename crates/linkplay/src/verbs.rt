@@ -5,9 +5,18 @@ use crate::play::by_table;
 use orders::LinkVerb;
 use script::Order;
 
+// How an end is opened: without a choice, or with a mode named.
+pub enum Opening {
+    Unsaid,
+    Sooner,
+    Spaced,
+}
+
 // Who carries an order out.
 pub enum Verb {
     Link(LinkVerb),
+    // A fresh link for an end.
+    Open(Opening),
     // The sizes of the lent buffers.
     Room,
     // Each end is given what the other put out.
@@ -26,6 +35,9 @@ pub fn verb_of(call: u8) -> Verb {
         b'T' => Verb::Link(LinkVerb::Tick),
         b'N' => Verb::Link(LinkVerb::Ticks),
         b'X' => Verb::Link(LinkVerb::Restart),
+        b'O' => Verb::Open(Opening::Unsaid),
+        b'E' => Verb::Open(Opening::Sooner),
+        b'D' => Verb::Open(Opening::Spaced),
         b'L' => Verb::Room,
         b'P' => Verb::Pass,
         Order::BLANK => Verb::Blank,
@@ -33,15 +45,15 @@ pub fn verb_of(call: u8) -> Verb {
     }
 }
 
-// What a line asks of an end. The stand-in is asked for the link's calls alone: any other line for it is an error.
+// What a line asks of an end. The stand-in is asked for the link's calls and to be opened: any other line for it is an error.
 pub fn asked_of(place: usize, order: Order) -> Order {
     if place == HOST {
         return order;
     }
-    if let Verb::Link(_) = verb_of(order.call) {
-        return order;
+    match verb_of(order.call) {
+        Verb::Link(_) | Verb::Open(_) => order,
+        _ => Order::error(),
     }
-    Order::error()
 }
 
 // One line of the script, of n bytes.
@@ -61,6 +73,9 @@ pub fn on_line(
         tick T 0 . .\n\
         ticks N 0 n .\n\
         restart X 0 . .\n\
+        open O 0 . .\n\
+        opensooner E 0 . .\n\
+        openspaced D 0 . .\n\
         room L 0 st .\n\
         pass P 0 . .\n\
         build b 257 bb* build {ok &,refused=#}\n\

@@ -7,6 +7,10 @@ use lib.Dec.{eqb}
 use Rattle.refusals.specs.Pick.{pick}
 use Rattle.rules.specs.declared.Role.{Role}
 use Rattle.rules.specs.declared.Role.the-variants.{Host, Module}
+use Rattle.rules.specs.declared.Mode.{Mode}
+use Rattle.rules.specs.declared.Mode.the-variants.{Sooner, Spaced}
+use Rattle.rules.specs.declared.Cause.{Cause}
+use Rattle.rules.specs.declared.Cause.the-variants.{Told, Time}
 use Rattle.rules.specs.declared.Choice.{Choice}
 
 -- the stand-in, and not the host
@@ -14,18 +18,17 @@ abbrev pub isModule : Role → Bool
 isModule Host = false
 isModule Module = true
 
--- a link opened without a choice is the host
+-- a link opened without a choice is the host, in the new mode
 abbrev pub usual : Choice
-usual = record { role = Host }
+usual = record { role = Host; mode = Sooner }
+
+-- the host in the old mode, which opening has to name
+abbrev pub spaced : Choice
+spaced = record { role = Host; mode = Spaced }
 
 -- opened as the stand-in for a module
 abbrev pub standIn : Choice
-standIn = record { role = Module }
-
--- why a copy is given up: 15 or 18 came, or its wait ran out
-pub data Cause : Type 0 where
-  told : Cause
-  time : Cause
+standIn = record { role = Module; mode = Sooner }
 
 pub record Rules : Type 0 where
   -- what the link was opened as
@@ -35,23 +38,41 @@ pub record Rules : Type 0 where
   -- how many ticks the sender backs off, by the cause and the number of copies
   pub back : Cause → ℕ → ℕ
 
+-- one of three numbers: after copy 1, after copy 2, after copy 3
+abbrev pub byCopy : (first second third : ℕ) → ℕ → ℕ
+byCopy first second third n = pick (eqb n 1) first (pick (eqb n 2) second third)
+
 -- after copy 1, 2, 3 back off 100, 1,100, 2,100 ticks
 abbrev pub backOffs : ℕ → ℕ
-backOffs n = pick (eqb n 1) 100 (pick (eqb n 2) 1100 2100)
+backOffs = byCopy 100 1100 2100
+
+-- "After a loss by timeout the back-off is 0, 0, 500 in place of 100, 1,100, 2,100" (document 02, P4).
+abbrev pub soonerOffs : ℕ → ℕ
+soonerOffs = byCopy 0 0 500
+
+-- "NAK and CAN keep the full waits"; after silence it goes by the mode.
+abbrev pub backBy : Mode → Cause → ℕ → ℕ
+backBy m Told n = backOffs n
+backBy Sooner Time n = soonerOffs n
+backBy Spaced Time n = backOffs n
 
 -- At 115,200 bits/s and 10 bits a byte, a frame of b bytes takes 25b/288 ms, rounded up (document 02, P2).
 -- A length above 257, which no frame has, counts as 257.
 unfoldable pub wireTime : ℕ → ℕ
 wireTime b = (25 * min b 257 + 287) / 288
 
--- the rules that hold, the host's: 1,600 ticks behind the time on the wire, the same back-offs for both causes
+-- a copy waits 1,600 ticks behind its time on the wire
+abbrev pub ackWait : ℕ → ℕ
+ackWait size = 1600 + wireTime size
+
+-- the rules of a link that was opened so; the stand-in sends by the same as the host
+abbrev pub rulesOf : Choice → Rules
+rulesOf c = record { choice = c; wait = ackWait; back = backBy (c .mode) }
+
+-- those of a link opened without a choice
 abbrev pub base : Rules
-base = record { choice = usual; wait = λ size. 1600 + wireTime size; back = λ cause n. backOffs n }
+base = rulesOf usual
 
 -- the same rules of sending for another choice
 abbrev pub chosen : Choice → Rules → Rules
 chosen c R = record { choice = c; wait = R .wait; back = R .back }
-
--- the rules of a link that was opened so: the stand-in sends by the same
-abbrev pub rulesOf : Choice → Rules
-rulesOf c = chosen c base

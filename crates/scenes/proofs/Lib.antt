@@ -5,3 +5,4 @@ pub mod Reach
 pub mod Machine
 pub mod StandIn
 pub mod Wire
+pub mod Modes

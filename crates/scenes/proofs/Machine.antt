@@ -11,6 +11,7 @@ use Rattle.rules.specs.Rules.{wireTime, rulesOf}
 use Rattle.rules.specs.declared.Choice.{Choice}
 use Rattle.rules.specs.declared.Role.{Role}
 use Rattle.rules.specs.declared.Role.the-variants.{Host, Module}
+use Rattle.rules.specs.declared.Mode.the-variants.{Sooner, Spaced}
 use Rattle.hearing.specs.Hearing.{heard, begun, more, ended, later, hearByte, hearTick}
 use Rattle.hearing.specs.declared.hearing.Partial.{Partial}
 use Rattle.hearing.specs.declared.hearing.Hearing.the-variants.{Hunting, Head, Body}
@@ -27,7 +28,7 @@ use Rattle.job.specs.declared.job.Asking.{Asking}
 use Rattle.job.specs.declared.job.Job.the-variants.{Waiting, BackingOff, Awaiting}
 use Rattle.sending.specs.Events.{respond, onEvent}
 use Rattle.link.specs.Out.{restartOut}
-use Rattle.scenes.specs.Machine.{AllRows, AllHear, idleRows, dueRows, waitingRows, backingOffRows, awaitingRows, huntingRows, headRows, bodyRows, frameRows, cancelRows, endRows, JobTable, HearingTable, Starts}
+use Rattle.scenes.specs.Machine.{AllRows, AllHear, idleRows, dueRows, waitingRows, soonerRows, spacedRows, backingOffRows, awaitingRows, huntingRows, headRows, bodyRows, frameRows, cancelRows, endRows, JobTable, HearingTable, Starts}
 
 -- ---- the rows
 idle-rows : (o : Choice) (size : ℕ) (a : Asking) (at k f : ℕ) → AllRows o size (idleRows a at k f)
@@ -47,7 +48,13 @@ counted : (size : ℕ) → 1_598 + wireTime size + 1 ≡ 1_599 + wireTime size
 counted size = omega arith
 
 waiting-rows : (o : Choice) (size : ℕ) (a b : Asking) (c n e at k f : ℕ) (hunting : Bool) → AllRows o size (waitingRows (wireTime size) a b c n e at k f hunting)
-waiting-rows o size a b c n e at k f hunting = (refl, (refl, (refl, (refl, (rw (lost-then size), (rw (lost-then size), (rw (lost-then size), (refl, (refl, (rw (lost-then size), (rw (lost-then size), (rw (lost-then size), (refl, (refl, (rw (lost-then size), (rw (lost-then size), (rw (lost-then size), (refl, (refl, (rw (lost-then size), (rw (lost-then size), (rw (lost-then size), (refl, (refl, (rw (lost-then size), (rw (lost-then size), (rw (lost-then size), (rw (waits-then size, counted size), (rw (waits-then size, counted size), (rw (waits-then size, counted size), (refl, (refl, (refl, (refl, (refl, (refl, (refl, (refl, (refl, (refl, (refl, tt)))))))))))))))))))))))))))))))))))))))))
+waiting-rows o size a b c n e at k f hunting = (refl, (refl, (refl, (refl, (refl, (refl, (refl, (refl, (refl, (refl, (rw (lost-then size), (rw (lost-then size), (rw (lost-then size), (refl, (refl, (rw (lost-then size), (rw (lost-then size), (rw (lost-then size), (rw (waits-then size, counted size), (rw (waits-then size, counted size), (rw (waits-then size, counted size), (refl, (refl, (refl, (refl, (refl, (refl, (refl, (refl, (refl, (refl, (refl, tt))))))))))))))))))))))))))))))))
+
+sooner-rows : (role : Role) (size : ℕ) (a : Asking) → AllRows (record { role = role; mode = Sooner }) size (soonerRows (wireTime size) a)
+sooner-rows role size a = (rw (lost-then size), (rw (lost-then size), (rw (lost-then size), (rw (lost-then size), (rw (lost-then size), (rw (lost-then size), (rw (lost-then size), (rw (lost-then size), (rw (lost-then size), tt)))))))))
+
+spaced-rows : (role : Role) (size : ℕ) (a : Asking) → AllRows (record { role = role; mode = Spaced }) size (spacedRows (wireTime size) a)
+spaced-rows role size a = (rw (lost-then size), (rw (lost-then size), (rw (lost-then size), (rw (lost-then size), (rw (lost-then size), (rw (lost-then size), (rw (lost-then size), (rw (lost-then size), (rw (lost-then size), tt)))))))))
 
 backing-off-rows : (o : Choice) (size : ℕ) (a b : Asking) (c n l at k f : ℕ) (hunting : Bool) → AllRows o size (backingOffRows a b c n l at k f hunting)
 backing-off-rows o size a b c n l at k f hunting = (refl, (refl, (refl, (refl, (refl, (refl, (refl, (refl, (refl, (refl, (refl, (refl, (refl, (refl, (refl, (refl, (refl, (refl, (refl, (refl, (refl, (refl, (refl, tt)))))))))))))))))))))))
@@ -57,7 +64,7 @@ awaiting-rows o size b c n e at k hunting = (refl, (refl, (refl, (refl, (refl, (
 
 pub job-table : (o : Choice) (size : ℕ) (a b : Asking) (c n e l at k f : ℕ) (hunting : Bool) → JobTable o size a b c n e l at k f hunting
 job-table o size a b c n e l at k f hunting =
-    (idle-rows o size a at k f, (due-rows o size a b c n at k f hunting, (waiting-rows o size a b c n e at k f hunting, (backing-off-rows o size a b c n l at k f hunting, awaiting-rows o size b c n e at k hunting))))
+    (idle-rows o size a at k f, (due-rows o size a b c n at k f hunting, (waiting-rows o size a b c n e at k f hunting, (sooner-rows (o .role) size a, (spaced-rows (o .role) size a, (backing-off-rows o size a b c n l at k f hunting, awaiting-rows o size b c n e at k hunting))))))
 
 hunting-rows : (role : Role) (w : Awaited) (bad : ℕ) → AllHear role (huntingRows w bad)
 unfolding restartOut

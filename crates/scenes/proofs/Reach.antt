@@ -13,11 +13,15 @@ use lib.Seq.{take-append-seam}
 use borrow.Author.Tests.{lt-ltb, le-ltb, ne-eqb}
 use Rattle.refusals.proofs.Picks.{pick-ok}
 use Rattle.frame.specs.Bytes.{over}
-use Rattle.frame.specs.Frame.{REQ, RES, ACK, MAX_PARAMETERS, MAX_FRAME, frameOf}
+use Rattle.frame.specs.Frame.{REQ, RES, ACK, NAK, MAX_PARAMETERS, MAX_FRAME, frameOf}
 use Rattle.frame.proofs.Theorems.{frame-length}
-use Rattle.rules.specs.Rules.{Rules, time, wireTime, rulesOf}
+use Rattle.rules.specs.Rules.{Rules, backOffs, backBy, wireTime, ackWait, rulesOf}
+use Rattle.rules.specs.declared.Mode.{Mode}
+use Rattle.rules.specs.declared.Mode.the-variants.{Sooner, Spaced}
+use Rattle.rules.specs.declared.Cause.{Cause}
+use Rattle.rules.specs.declared.Cause.the-variants.{Told, Time}
 use Rattle.rules.specs.declared.Choice.{Choice}
-use Rattle.job.specs.Job.{goesOn, still, putOut, fail}
+use Rattle.job.specs.Job.{goesOn, still, putOut, fail, lose}
 use Rattle.job.specs.Ticks.{onTick}
 use Rattle.reception.specs.Said.{saidOn}
 use Rattle.link.specs.Link.{noBody, noFrame}
@@ -26,7 +30,8 @@ use Rattle.link.specs.Out.{Out, out, byteOut, tickOut, openOut}
 use Rattle.hearing.specs.declared.hearing.Hearing.{Hearing}
 use Rattle.hearing.specs.declared.hearing.Hearing.the-variants.{Hunting, Head}
 use Rattle.hearing.specs.declared.hearing.Event.{Event}
-use Rattle.hearing.specs.declared.hearing.Event.the-variants.{TickHunting, TickInside, Aborted}
+use Rattle.hearing.specs.declared.hearing.Event.the-variants.{Alone, TickHunting, TickInside, Aborted}
+use Rattle.hearing.specs.declared.hearing.Single.the-variants.{Nak}
 use Rattle.job.specs.declared.job.Act.{Act}
 use Rattle.job.specs.declared.job.Asking.{Asking}
 use Rattle.job.specs.declared.job.Asking.the-variants.{Plain, Asks}
@@ -43,7 +48,7 @@ use Rattle.history.specs.Watch.{Verdict, failed, noResponse, Says, none, says, 
 use Rattle.history.specs.Demand3.{Kept, EverySend, EverySession, sendBound, sessionBound}
 use Rattle.history.proofs.Job.{no-verdict}
 use Rattle.scenes.specs.Scene.{silence}
-use Rattle.scenes.specs.Longest.{frameBegins, before, round, toFourth, longestSend, longestSession, roundTime, fourthTime, sendTime, sessionTime, baseRound, Reaches}
+use Rattle.scenes.specs.Longest.{frameBegins, before, givenUp, round, longer, toFourth, longestSend, longestSession, givenUpTime, roundTime, fourthTime, sendTime, sessionTime, baseRound, Reaches}
 use Rattle.reception.specs.Sums.{sumsOn}
 use Rattle.sending.specs.Events.{awaitedBy}
 
@@ -123,15 +128,35 @@ module _ (R : Rules) (a : Asking) (f : List ℕ) where
   waiting : (n e : ℕ) → suc e < R .wait (length f) → onTick R (length f) true (Waiting a n e) ≡ still (Waiting a n (suc e))
   waiting n e h = rw (add-one e, lt-ltb (suc e) (R .wait (length f)) h)
 
-  lost : (n e : ℕ) → suc e ≡ R .wait (length f) → n < 4 → 0 < R .back time n
-      → onTick R (length f) true (Waiting a n e) ≡ goesOn (BackingOff a n (R .back time n)) (sending.BackingOff (record { 0 = R .back time n }))
-  lost n e h q p = rw (add-one e, le-ltb (suc e) (R .wait (length f)) (omega arith), lt-ltb n 4 q, ne-eqb (R .back time n) 0 (λ z. omega arith))
+  -- given up, with a back-off that is not 0: whatever the cause
+  backs-off : (cause : Cause) (n : ℕ) → n < 4 → 0 < R .back cause n
+      → lose R cause true a n ≡ goesOn (BackingOff a n (R .back cause n)) (sending.BackingOff (record { 0 = R .back cause n }))
+  backs-off cause n q p = rw (lt-ltb n 4 q, ne-eqb (R .back cause n) 0 (λ z. omega arith))
+
+  lost : (n e : ℕ) → suc e ≡ R .wait (length f) → onTick R (length f) true (Waiting a n e) ≡ lose R Time true a n
+  lost n e h = rw (add-one e, le-ltb (suc e) (R .wait (length f)) (omega arith))
 
   wait-then : (n : ℕ) (w : List Call → Watch) → 0 < R .wait (length f)
       → Leads (at Hunting (Waiting a n (R .wait (length f) - 1))) (lent tick ∷ []) w 1 [] → Leads (at Hunting (Waiting a n 0)) (silence (R .wait (length f))) w (R .wait (length f)) []
   wait-then n w h p =
       subst (λ (t : ℕ). Leads (at Hunting (Waiting a n 0)) (silence t) w t []) (let e : suc (R .wait (length f) - 1) ≡ R .wait (length f) = omega arith in e)
       (quiet-then (λ i. at Hunting (Waiting a n i)) w [] (R .wait (length f) - 1) (λ i q. hunting _ _ sending.Nothing (waiting n i (omega arith)) refl) p)
+
+  wait-almost : (n : ℕ) → Leads (at Hunting (Waiting a n 0)) (silence (R .wait (length f) - 1)) (goingOn (at Hunting (Waiting a n (R .wait (length f) - 1)))) (R .wait (length f) - 1) []
+  wait-almost n = quietly (λ i. at Hunting (Waiting a n i)) (R .wait (length f) - 1) (λ i q. hunting _ _ sending.Nothing (waiting n i (omega arith)) refl)
+
+  -- 15 while waiting, by what the job does
+  told : (n e : ℕ) (j′ : Job) (s : Sending) → lose R Told true a n ≡ goesOn j′ s → sendVerdict s ≡ none
+      → Leads (at Hunting (Waiting a n e)) (lent (byte NAK) ∷ []) (goingOn (at Hunting j′)) 0 []
+  unfolding byteOut
+  told n e j′ s q v =
+      record {
+        to = λ k. ap (λ (x : Act). onward (verdictOf a (saysNak x)) 0 (saysNak x .line) (watch R a (saysNak x .link) k)) q
+            ∙ ap (λ (z : Says). onward z 0 [] (watch R a (at Hunting j′) k)) (no-verdict a s session.Nothing v refl);
+      }
+    where
+      saysNak : Act → Out
+      saysNak = gives Hunting (Alone Nak) (Waiting a n e)
 
   -- ---- backing off
   backing : (n b : ℕ) → onTick R (length f) true (BackingOff a n (suc (suc b))) ≡ still (BackingOff a n (suc b))
@@ -147,12 +172,11 @@ module _ (R : Rules) (a : Asking) (f : List ℕ) where
       (let e : 1 + b ≡ suc b = omega arith in e)
       (then (hunting _ _ sending.Nothing (backing n b) refl) (backed-off n b))
 
-  back-then : (n : ℕ) → 0 < R .back time n
-      → Leads (at Hunting (BackingOff a n (R .back time n))) (silence (R .back time n - 1)) (goingOn (at Hunting (BackingOff a n 1))) (R .back time n - 1) []
-  back-then n h =
-      subst (λ (b : ℕ). Leads (at Hunting (BackingOff a n b)) (silence (R .back time n - 1)) (goingOn (at Hunting (BackingOff a n 1))) (R .back time n - 1) [])
-      (let e : suc (R .back time n - 1) ≡ R .back time n = omega arith in e)
-      (backed-off n (R .back time n - 1))
+  back-then : (n b : ℕ) → 0 < b → Leads (at Hunting (BackingOff a n b)) (silence (b - 1)) (goingOn (at Hunting (BackingOff a n 1))) (b - 1) []
+  back-then n b h =
+      subst (λ (t : ℕ). Leads (at Hunting (BackingOff a n t)) (silence (b - 1)) (goingOn (at Hunting (BackingOff a n 1))) (b - 1) [])
+      (let e : suc (b - 1) ≡ b = omega arith in e)
+      (backed-off n (b - 1))
 
   -- ---- a frame that begins, and its abort
   begins : (j : Job) → Leads (at Hunting j) (frameBegins ∷ []) (goingOn (at (Head 0) j)) 0 []
@@ -194,15 +218,24 @@ module _ (R : Rules) (a : Asking) (f : List ℕ) where
   come-due : (n : ℕ) → n < 4 → Leads (at (Head 0) (BackingOff a n 1)) (silence 1501) (goingOn (at Hunting (Waiting a (n + 1) 0))) 1501 f
   come-due n h = quiet-then (comesDue n) _ f 1500 (comes-due n) (aborts n h)
 
-  -- ---- a round: from copy n to copy n + 1
-  module _ (some : 0 < R .wait (length f)) (backs : (n : ℕ) → 0 < R .back time n) where
-    round-leads : (n : ℕ) → n < 4
-        → Leads (at Hunting (Waiting a n 0)) (round R (length f) n) (goingOn (at Hunting (Waiting a (n + 1) 0))) (roundTime R (length f) n) f
-    round-leads n h =
-        then (wait-then n _ some (hunting _ _ _ (lost n (R .wait (length f) - 1) (omega arith) h (backs n)) refl))
-        (then (back-then n (backs n)) (then (begins (BackingOff a n 1)) (come-due n h)))
+  -- ---- a round: from copy n to copy n + 1, given up for this cause
+  module _ (cause : Cause) (some : 0 < R .wait (length f)) (backs : (n : ℕ) → 0 < R .back cause n) where
+    given-up : (n : ℕ) → n < 4
+        → Leads (at Hunting (Waiting a n 0)) (givenUp cause (R .wait (length f))) (goingOn (at Hunting (BackingOff a n (R .back cause n)))) (givenUpTime cause (R .wait (length f))) []
+    given-up n h = by cause (backs-off cause n h (backs n))
+      where
+        by : (k : Cause) → lose R k true a n ≡ goesOn (BackingOff a n (R .back k n)) (sending.BackingOff (record { 0 = R .back k n }))
+            → Leads (at Hunting (Waiting a n 0)) (givenUp k (R .wait (length f))) (goingOn (at Hunting (BackingOff a n (R .back k n)))) (givenUpTime k (R .wait (length f))) []
+        by Time e = wait-then n _ some (hunting _ _ _ (lost n (R .wait (length f) - 1) (omega arith) ∙ e) refl)
+        by Told e =
+            subst (λ (t : ℕ). Leads (at Hunting (Waiting a n 0)) (givenUp Told (R .wait (length f))) (goingOn (at Hunting (BackingOff a n (R .back Told n)))) t [])
+            (add-zero (R .wait (length f) - 1)) (then (wait-almost n) (told n (R .wait (length f) - 1) _ _ e refl))
 
-    fourth-leads : Leads (at (Head 0) (Due a 0)) (toFourth R (length f)) (goingOn (at Hunting (Waiting a 4 0))) (fourthTime R (length f)) (f ++ (f ++ (f ++ f)))
+    round-leads : (n : ℕ) → n < 4
+        → Leads (at Hunting (Waiting a n 0)) (round R cause (length f) n) (goingOn (at Hunting (Waiting a (n + 1) 0))) (roundTime R cause (length f) n) f
+    round-leads n h = then (given-up n h) (then (back-then n (R .back cause n) (backs n)) (then (begins (BackingOff a n 1)) (come-due n h)))
+
+    fourth-leads : Leads (at (Head 0) (Due a 0)) (toFourth R cause (length f)) (goingOn (at Hunting (Waiting a 4 0))) (fourthTime R cause (length f)) (f ++ (f ++ (f ++ f)))
     fourth-leads = then due-then (then (round-leads 1 (omega arith)) (then (round-leads 2 (omega arith)) (round-leads 3 (omega arith))))
 
 -- ---- the verdicts
@@ -231,22 +264,22 @@ no-response R c f n =
     (λ i h. hunting R (Asks c) f _ _ sending.Nothing (awaiting R c (length f) n i (omega arith)) refl)
     (tick-ended R (Asks c) f _ _ (noResponse n) refl refl refl)
 
--- ---- every send and every session, for any rules with waits and back-offs
-module _ (R : Rules) (backs : (n : ℕ) → 0 < R .back time n) where
+-- ---- every send and every session, for any rules with waits and with back-offs for this cause
+module _ (R : Rules) (cause : Cause) (backs : (n : ℕ) → 0 < R .back cause n) where
   pub send-reaches : (kind command : ℕ) (ps : List ℕ) → kind ≤ RES → length ps ≤ MAX_PARAMETERS → 0 < R .wait (length (frameOf kind command ps))
-      → Reaches R before (send kind command ps) Plain (longestSend R (length (frameOf kind command ps))) (frameOf kind command ps) (failed 4) (sendTime R (length (frameOf kind command ps)))
+      → Reaches R before (send kind command ps) Plain (longestSend R cause (length (frameOf kind command ps))) (frameOf kind command ps) (failed 4) (sendTime R cause (length (frameOf kind command ps)))
   unfolding byteOut openOut
   send-reaches kind command ps k n some =
       let f = frameOf kind command ps in
       record {
         gave = openOut (after R before) Plain f;
         accepted = rw (le-ltb 1 kind k, le-ltb 252 (length ps) n);
-        verdict = finish R Plain f (f ++ (f ++ (f ++ f))) (then R Plain f (fourth-leads R Plain f some backs) (wait-then R Plain f 4 _ some (fails R f _ (omega arith))));
+        verdict = finish R Plain f (f ++ (f ++ (f ++ f))) (then R Plain f (fourth-leads R Plain f cause some backs) (wait-then R Plain f 4 _ some (fails R f _ (omega arith))));
       }
 
   pub session-reaches : (command : ℕ) (ps : List ℕ) → length ps ≤ MAX_PARAMETERS → 0 < R .wait (length (frameOf REQ command ps))
-      → Reaches R before (sessionCall command ps) (Asks command) (longestSession R (length (frameOf REQ command ps))) (frameOf REQ command ps) (noResponse 4)
-      (sessionTime R (length (frameOf REQ command ps)))
+      → Reaches R before (sessionCall command ps) (Asks command) (longestSession R cause (length (frameOf REQ command ps))) (frameOf REQ command ps) (noResponse 4)
+      (sessionTime R cause (length (frameOf REQ command ps)))
   unfolding byteOut openOut
   session-reaches command ps n some =
       let f = frameOf REQ command ps in
@@ -256,50 +289,76 @@ module _ (R : Rules) (backs : (n : ℕ) → 0 < R .back time n) where
         accepted = rw (le-ltb 252 (length ps) n);
         verdict =
             finish R a f (f ++ (f ++ (f ++ f)))
-            (then R a f (fourth-leads R a f some backs)
-            (then R a f (quietly R a f (λ i. at R a f Hunting (Waiting a 4 i)) (R .wait (length f) - 1) (λ i q. hunting R a f _ _ sending.Nothing (waiting R a f 4 i (omega arith)) refl))
-            (then R a f (acknowledged R command f 4 (R .wait (length f) - 1)) (no-response R command f 4))));
+            (then R a f (fourth-leads R a f cause some backs)
+            (then R a f (wait-almost R a f 4) (then R a f (acknowledged R command f 4 (R .wait (length f) - 1)) (no-response R command f 4))));
       }
 
-rules-back : (c : Choice) (n : ℕ) → 0 < rulesOf c .back time n
-rules-back c n = pick-ok (λ (k : ℕ). 0 < k) (eqb n 1) 100 _ (omega arith) (pick-ok (λ (k : ℕ). 0 < k) (eqb n 2) 1100 2100 (omega arith) (omega arith))
+-- ---- the rules of the host and of the stand-in, in either mode
+-- the cause that lasts longer has the full back-offs, and none of them is 0
+full : (m : Mode) (n : ℕ) → backBy m (longer m) n ≡ backOffs n
+full Sooner n = refl
+full Spaced n = refl
 
--- ---- the rules of the host and of the stand-in
--- in numbers: the calls for a frame of so many bytes
-pub longest-send-is : (c : Choice) (size : ℕ)
-    → longestSend (rulesOf c) size
-    ≡ (silence 1501 ++ (baseRound (wireTime size) 99 ++ (baseRound (wireTime size) 1099 ++ baseRound (wireTime size) 2099))) ++ silence (1600 + wireTime size)
-longest-send-is c size = refl
+rules-back : (c : Choice) (n : ℕ) → 0 < rulesOf c .back (longer (c .mode)) n
+rules-back c n =
+    subst (λ (t : ℕ). 0 < t) (sym (full (c .mode) n))
+    (pick-ok (λ (k : ℕ). 0 < k) (eqb n 1) 100 _ (omega arith) (pick-ok (λ (k : ℕ). 0 < k) (eqb n 2) 1100 2100 (omega arith) (omega arith)))
 
-pub longest-session-is : (c : Choice) (size : ℕ)
-    → longestSession (rulesOf c) size
-    ≡ (silence 1501 ++ (baseRound (wireTime size) 99 ++ (baseRound (wireTime size) 1099 ++ baseRound (wireTime size) 2099)))
+-- in numbers: the calls to copy 4 for a frame of so many bytes
+to-fourth-is : (c : Choice) (size : ℕ) → let k = longer (c .mode) in toFourth (rulesOf c) k size ≡ silence 1501 ++ (baseRound k (wireTime size) 99 ++ (baseRound k (wireTime size) 1099 ++ baseRound k (wireTime size) 2099))
+to-fourth-is c size =
+    let k = longer (c .mode) in
+    let by : (n : ℕ) → round (rulesOf c) k size n ≡ baseRound k (wireTime size) (backOffs n - 1) =
+    λ n. ap (λ (b : ℕ). givenUp k (ackWait size) ++ (silence (b - 1) ++ (frameBegins ∷ silence 1501))) (full (c .mode) n) in
+    ap₂ (λ (x y : List Call). silence 1501 ++ (x ++ y)) (by 1) (ap₂ (λ (x y : List Call). x ++ y) (by 2) (by 3))
+
+pub longest-send-is : (c : Choice) (size : ℕ) → let k = longer (c .mode) in
+    longestSend (rulesOf c) k size
+    ≡ (silence 1501 ++ (baseRound k (wireTime size) 99 ++ (baseRound k (wireTime size) 1099 ++ baseRound k (wireTime size) 2099))) ++ silence (1600 + wireTime size)
+longest-send-is c size = ap (λ (x : List Call). x ++ silence (1600 + wireTime size)) (to-fourth-is c size)
+
+pub longest-session-is : (c : Choice) (size : ℕ) → let k = longer (c .mode) in
+    longestSession (rulesOf c) k size
+    ≡ (silence 1501 ++ (baseRound k (wireTime size) 99 ++ (baseRound k (wireTime size) 1099 ++ baseRound k (wireTime size) 2099)))
     ++ (silence (1599 + wireTime size) ++ (lent (byte ACK) ∷ silence 5000))
 longest-session-is c size =
     let e : 1600 + wireTime size - 1 ≡ 1599 + wireTime size = omega arith in
-    ap (λ (t : ℕ). toFourth (rulesOf c) size ++ (silence t ++ (lent (byte ACK) ∷ silence 5000))) e
+    ap₂ (λ (x : List Call) (t : ℕ). x ++ (silence t ++ (lent (byte ACK) ∷ silence 5000))) (to-fourth-is c size) e
+
+-- and their ticks are the bound
+send-time : (c : Choice) (size : ℕ) → sendTime (rulesOf c) (longer (c .mode)) size ≡ sendBound (c .mode) size
+send-time c size = by (c .mode)
+  where
+    by : (m : Mode) → sendTime (record { choice = c; wait = ackWait; back = backBy m }) (longer m) size ≡ sendBound m size
+    by Sooner = omega arith
+    by Spaced = omega arith
+
+session-time : (c : Choice) (size : ℕ) → sessionTime (rulesOf c) (longer (c .mode)) size ≡ sessionBound (c .mode) size
+session-time c size = by (c .mode)
+  where
+    by : (m : Mode) → sessionTime (record { choice = c; wait = ackWait; back = backBy m }) (longer m) size ≡ sessionBound m size
+    by Sooner = omega arith
+    by Spaced = omega arith
 
 -- Every send reaches its bound: failed, 4 copies, on exactly that accepted tick.
 pub every-send-reaches : (c : Choice) (kind command : ℕ) (ps : List ℕ) → kind ≤ RES → length ps ≤ MAX_PARAMETERS
-    → Reaches (rulesOf c) before (send kind command ps) Plain (longestSend (rulesOf c) (length (frameOf kind command ps))) (frameOf kind command ps) (failed 4)
-    (sendBound (length (frameOf kind command ps)))
+    → Reaches (rulesOf c) before (send kind command ps) Plain (longestSend (rulesOf c) (longer (c .mode)) (length (frameOf kind command ps))) (frameOf kind command ps) (failed 4)
+    (sendBound (c .mode) (length (frameOf kind command ps)))
 every-send-reaches c kind command ps k n =
     let f = frameOf kind command ps in
-    subst (Reaches (rulesOf c) before (send kind command ps) Plain (longestSend (rulesOf c) (length f)) f (failed 4))
-    (let e : sendTime (rulesOf c) (length f) ≡ sendBound (length f) = omega arith in e)
-    (send-reaches (rulesOf c) (rules-back c) kind command ps k n (omega arith))
+    subst (Reaches (rulesOf c) before (send kind command ps) Plain (longestSend (rulesOf c) (longer (c .mode)) (length f)) f (failed 4))
+    (send-time c (length f)) (send-reaches (rulesOf c) (longer (c .mode)) (rules-back c) kind command ps k n (omega arith))
 
 -- Every session reaches its bound: no response, 4 copies, on exactly that accepted tick.
 pub every-session-reaches : (c : Choice) (command : ℕ) (ps : List ℕ) → length ps ≤ MAX_PARAMETERS
-    → Reaches (rulesOf c) before (sessionCall command ps) (Asks command) (longestSession (rulesOf c) (length (frameOf REQ command ps))) (frameOf REQ command ps) (noResponse 4)
-    (sessionBound (length (frameOf REQ command ps)))
+    → Reaches (rulesOf c) before (sessionCall command ps) (Asks command) (longestSession (rulesOf c) (longer (c .mode)) (length (frameOf REQ command ps))) (frameOf REQ command ps) (noResponse 4)
+    (sessionBound (c .mode) (length (frameOf REQ command ps)))
 every-session-reaches c command ps n =
     let f = frameOf REQ command ps in
-    subst (Reaches (rulesOf c) before (sessionCall command ps) (Asks command) (longestSession (rulesOf c) (length f)) f (noResponse 4))
-    (let e : sessionTime (rulesOf c) (length f) ≡ sessionBound (length f) = omega arith in e)
-    (session-reaches (rulesOf c) (rules-back c) command ps n (omega arith))
+    subst (Reaches (rulesOf c) before (sessionCall command ps) (Asks command) (longestSession (rulesOf c) (longer (c .mode)) (length f)) f (noResponse 4))
+    (session-time c (length f)) (session-reaches (rulesOf c) (longer (c .mode)) (rules-back c) command ps n (omega arith))
 
--- ---- So demand 3 holds with no smaller bound, of either end, for any length that a frame has.
+-- ---- So demand 3 holds with no smaller bound, of either end, in either mode, for any length that a frame has.
 -- parameters for a frame of so many bytes
 abbrev zeros : ℕ → List ℕ
 zeros size = replicate (size - 5) 0
@@ -310,18 +369,18 @@ zeros-few size high = omega (arith, length-replicate {A = ℕ} (size - 5) 0)
 zeros-make : (size : ℕ) → 5 ≤ size → length (frameOf REQ 0x07 (zeros size)) ≡ size
 zeros-make size low = omega (arith, frame-length REQ 0x07 (zeros size), length-replicate {A = ℕ} (size - 5) 0)
 
-pub send-bound-least : (c : Choice) (b : ℕ → ℕ) → EverySend (rulesOf c) b → (size : ℕ) → 5 ≤ size → size ≤ MAX_FRAME → sendBound size ≤ b size
+pub send-bound-least : (c : Choice) (b : ℕ → ℕ) → EverySend (rulesOf c) b → (size : ℕ) → 5 ≤ size → size ≤ MAX_FRAME → sendBound (c .mode) size ≤ b size
 send-bound-least c b d size low high =
     let f = frameOf REQ 0x07 (zeros size) in
     let r = every-send-reaches c REQ 0x07 (zeros size) (omega arith) (zeros-few size high) in
-    subst (λ (n : ℕ). sendBound n ≤ b n) (zeros-make size low)
+    subst (λ (n : ℕ). sendBound (c .mode) n ≤ b n) (zeros-make size low)
     ((subst (Kept Plain f (b (length f))) (r .verdict)
-    ((d before (longestSend (rulesOf c) (length f)) 258 254 REQ 0x07 (zeros size) (r .gave) (r .accepted)) .kept)) .soon)
+    ((d before (longestSend (rulesOf c) (longer (c .mode)) (length f)) 258 254 REQ 0x07 (zeros size) (r .gave) (r .accepted)) .kept)) .soon)
 
-pub session-bound-least : (c : Choice) (b : ℕ → ℕ) → EverySession (rulesOf c) b → (size : ℕ) → 5 ≤ size → size ≤ MAX_FRAME → sessionBound size ≤ b size
+pub session-bound-least : (c : Choice) (b : ℕ → ℕ) → EverySession (rulesOf c) b → (size : ℕ) → 5 ≤ size → size ≤ MAX_FRAME → sessionBound (c .mode) size ≤ b size
 session-bound-least c b d size low high =
     let f = frameOf REQ 0x07 (zeros size) in
     let r = every-session-reaches c 0x07 (zeros size) (zeros-few size high) in
-    subst (λ (n : ℕ). sessionBound n ≤ b n) (zeros-make size low)
+    subst (λ (n : ℕ). sessionBound (c .mode) n ≤ b n) (zeros-make size low)
     ((subst (Kept (Asks 0x07) f (b (length f))) (r .verdict)
-    ((d before (longestSession (rulesOf c) (length f)) 258 254 0x07 (zeros size) (r .gave) (r .accepted)) .kept)) .soon)
+    ((d before (longestSession (rulesOf c) (longer (c .mode)) (length f)) 258 254 0x07 (zeros size) (r .gave) (r .accepted)) .kept)) .soon)

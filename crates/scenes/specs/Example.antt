@@ -11,7 +11,8 @@ use Rattle.reading.specs.Reader as reader
 use Rattle.reading.specs.declared.reader.Reading.{Reading}
 use Rattle.units.specs.Units.{ticksOf}
 use Rattle.units.specs.declared.Millis.{Millis}
-use Rattle.rules.specs.Rules.{standIn, rulesOf, base}
+use Rattle.rules.specs.Rules.{usual, spaced, standIn, rulesOf}
+use Rattle.rules.specs.declared.Choice.{Choice}
 use Rattle.nodes.specs.Nodes as nodes
 use Rattle.timeouts.specs.Timeouts.{SET_TIMEOUTS, ticksFor, setOf}
 use Rattle.nodes.specs.declared.NodeList.{NodeList}
@@ -27,9 +28,18 @@ pub data Question : Type 0 where
   read : (bytes : List ℕ) → Question
   -- list the nodes of a body into lent bytes
   list : (body lent : List ℕ) → Question
-  -- play a scene, with the host and with the stand-in
-  play : (calls : List Call) → Question
-  playStandIn : (calls : List Call) → Question
+  -- play a scene, with a link opened so
+  playAs : (choice : Choice) (calls : List Call) → Question
+
+-- with a link opened without a choice; with the host that names the old mode; with the stand-in
+abbrev pub play : List Call → Question
+play = playAs usual
+
+abbrev pub playSpaced : List Call → Question
+playSpaced = playAs spaced
+
+abbrev pub playStandIn : List Call → Question
+playStandIn = playAs standIn
 
 pub data Answer : Type 0 where
   -- what is answered, and the lent bytes after it
@@ -49,8 +59,7 @@ answerTo (setTimeouts rxack rxbyte lent) =
 answerTo (read bytes) = reading (reader.read bytes)
 answerTo (list body lent) =
     listed (nodes.nodeListOf body (length lent)) (nodes.listLeft (nodes.nodeListOf body (length lent)) (nodes.nodesOf body) lent)
-answerTo (play calls) = shows (seen base calls)
-answerTo (playStandIn calls) = shows (seen (rulesOf standIn) calls)
+answerTo (playAs choice calls) = shows (seen (rulesOf choice) calls)
 
 -- a row of the table
 pub record Example : Type 0 where

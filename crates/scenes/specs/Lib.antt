@@ -5,3 +5,4 @@ pub mod Longest
 pub mod Machine
 pub mod StandIn
 pub mod Wire
+pub mod Modes

@@ -12,6 +12,7 @@ use Rattle.rules.specs.Rules.{wireTime, rulesOf}
 use Rattle.rules.specs.declared.Choice.{Choice}
 use Rattle.rules.specs.declared.Role.{Role}
 use Rattle.rules.specs.declared.Role.the-variants.{Host, Module}
+use Rattle.rules.specs.declared.Mode.the-variants.{Sooner, Spaced}
 use Rattle.hearing.specs.Hearing.{hearByte, hearTick}
 use Rattle.hearing.specs.declared.hearing.Partial.{Partial}
 use Rattle.hearing.specs.declared.hearing.Hearing.{Hearing}
@@ -130,26 +131,17 @@ dueRows a b c n at k f hunting =
     ∷ row (Due (Asks c) n) restarts (does Idle sending.Nothing session.Abandoned reset.Nothing false)
     ∷ []
 
--- w is the frame's time on the wire
+-- w is the frame's time on the wire; what a loss by time does behind copies 1, 2 and 3 goes by the mode
 abbrev pub waitingRows : (w : ℕ) (a b : Asking) (c n e at k f : ℕ) (hunting : Bool) → List JobRow
 waitingRows w a b c n e at k f hunting =
     row (Waiting Plain n e) (on (Alone Ack)) (does Idle (sending.Acknowledged n) session.Nothing reset.Nothing false)
     ∷ row (Waiting (Asks c) n e) (on (Alone Ack)) (does (Awaiting c n 0) (sending.Acknowledged n) session.Waiting reset.Nothing false)
     ∷ row (Waiting a 1 e) (on (Alone Nak)) (does (BackingOff a 1 100) (sending.BackingOff (millis 100)) session.Nothing reset.Nothing false)
     ∷ row (Waiting a 1 e) (on (Alone Can)) (does (BackingOff a 1 100) (sending.BackingOff (millis 100)) session.Nothing reset.Nothing false)
-    ∷ row (Waiting a 1 (1_599 + w)) (on TickHunting) (does (BackingOff a 1 100) (sending.BackingOff (millis 100)) session.Nothing reset.Nothing false)
-    ∷ row (Waiting a 1 (1_599 + w)) (on TickInside) (does (BackingOff a 1 100) (sending.BackingOff (millis 100)) session.Nothing reset.Nothing false)
-    ∷ row (Waiting a 1 (1_599 + w)) (on Aborted) (does (BackingOff a 1 100) (sending.BackingOff (millis 100)) session.Nothing reset.Nothing false)
     ∷ row (Waiting a 2 e) (on (Alone Nak)) (does (BackingOff a 2 1_100) (sending.BackingOff (millis 1_100)) session.Nothing reset.Nothing false)
     ∷ row (Waiting a 2 e) (on (Alone Can)) (does (BackingOff a 2 1_100) (sending.BackingOff (millis 1_100)) session.Nothing reset.Nothing false)
-    ∷ row (Waiting a 2 (1_599 + w)) (on TickHunting) (does (BackingOff a 2 1_100) (sending.BackingOff (millis 1_100)) session.Nothing reset.Nothing false)
-    ∷ row (Waiting a 2 (1_599 + w)) (on TickInside) (does (BackingOff a 2 1_100) (sending.BackingOff (millis 1_100)) session.Nothing reset.Nothing false)
-    ∷ row (Waiting a 2 (1_599 + w)) (on Aborted) (does (BackingOff a 2 1_100) (sending.BackingOff (millis 1_100)) session.Nothing reset.Nothing false)
     ∷ row (Waiting a 3 e) (on (Alone Nak)) (does (BackingOff a 3 2_100) (sending.BackingOff (millis 2_100)) session.Nothing reset.Nothing false)
     ∷ row (Waiting a 3 e) (on (Alone Can)) (does (BackingOff a 3 2_100) (sending.BackingOff (millis 2_100)) session.Nothing reset.Nothing false)
-    ∷ row (Waiting a 3 (1_599 + w)) (on TickHunting) (does (BackingOff a 3 2_100) (sending.BackingOff (millis 2_100)) session.Nothing reset.Nothing false)
-    ∷ row (Waiting a 3 (1_599 + w)) (on TickInside) (does (BackingOff a 3 2_100) (sending.BackingOff (millis 2_100)) session.Nothing reset.Nothing false)
-    ∷ row (Waiting a 3 (1_599 + w)) (on Aborted) (does (BackingOff a 3 2_100) (sending.BackingOff (millis 2_100)) session.Nothing reset.Nothing false)
     ∷ row (Waiting Plain 4 e) (on (Alone Nak)) (does Idle (sending.Failed 4) session.Nothing reset.Delivery false)
     ∷ row (Waiting Plain 4 e) (on (Alone Can)) (does Idle (sending.Failed 4) session.Nothing reset.Delivery false)
     ∷ row (Waiting Plain 4 (1_599 + w)) (on TickHunting) (does Idle (sending.Failed 4) session.Nothing reset.Delivery false)
@@ -174,6 +166,34 @@ waitingRows w a b c n e at k f hunting =
     ∷ row (Waiting a n e) (opens hunting b) busy
     ∷ row (Waiting Plain n e) restarts (does Idle sending.Abandoned session.Nothing reset.Nothing false)
     ∷ row (Waiting (Asks c) n e) restarts (does Idle sending.Nothing session.Abandoned reset.Nothing false)
+    ∷ []
+
+-- a copy lost by time: in the new mode
+abbrev pub soonerRows : (w : ℕ) (a : Asking) → List JobRow
+soonerRows w a =
+    row (Waiting a 1 (1_599 + w)) (on TickHunting) (does (Waiting a 2 0) (sending.Copy 2) session.Nothing reset.Nothing true)
+    ∷ row (Waiting a 1 (1_599 + w)) (on TickInside) (does (Due a 1) sending.Due session.Nothing reset.Nothing false)
+    ∷ row (Waiting a 1 (1_599 + w)) (on Aborted) (does (Waiting a 2 0) (sending.Copy 2) session.Nothing reset.Nothing true)
+    ∷ row (Waiting a 2 (1_599 + w)) (on TickHunting) (does (Waiting a 3 0) (sending.Copy 3) session.Nothing reset.Nothing true)
+    ∷ row (Waiting a 2 (1_599 + w)) (on TickInside) (does (Due a 2) sending.Due session.Nothing reset.Nothing false)
+    ∷ row (Waiting a 2 (1_599 + w)) (on Aborted) (does (Waiting a 3 0) (sending.Copy 3) session.Nothing reset.Nothing true)
+    ∷ row (Waiting a 3 (1_599 + w)) (on TickHunting) (does (BackingOff a 3 500) (sending.BackingOff (millis 500)) session.Nothing reset.Nothing false)
+    ∷ row (Waiting a 3 (1_599 + w)) (on TickInside) (does (BackingOff a 3 500) (sending.BackingOff (millis 500)) session.Nothing reset.Nothing false)
+    ∷ row (Waiting a 3 (1_599 + w)) (on Aborted) (does (BackingOff a 3 500) (sending.BackingOff (millis 500)) session.Nothing reset.Nothing false)
+    ∷ []
+
+-- and in the old
+abbrev pub spacedRows : (w : ℕ) (a : Asking) → List JobRow
+spacedRows w a =
+    row (Waiting a 1 (1_599 + w)) (on TickHunting) (does (BackingOff a 1 100) (sending.BackingOff (millis 100)) session.Nothing reset.Nothing false)
+    ∷ row (Waiting a 1 (1_599 + w)) (on TickInside) (does (BackingOff a 1 100) (sending.BackingOff (millis 100)) session.Nothing reset.Nothing false)
+    ∷ row (Waiting a 1 (1_599 + w)) (on Aborted) (does (BackingOff a 1 100) (sending.BackingOff (millis 100)) session.Nothing reset.Nothing false)
+    ∷ row (Waiting a 2 (1_599 + w)) (on TickHunting) (does (BackingOff a 2 1_100) (sending.BackingOff (millis 1_100)) session.Nothing reset.Nothing false)
+    ∷ row (Waiting a 2 (1_599 + w)) (on TickInside) (does (BackingOff a 2 1_100) (sending.BackingOff (millis 1_100)) session.Nothing reset.Nothing false)
+    ∷ row (Waiting a 2 (1_599 + w)) (on Aborted) (does (BackingOff a 2 1_100) (sending.BackingOff (millis 1_100)) session.Nothing reset.Nothing false)
+    ∷ row (Waiting a 3 (1_599 + w)) (on TickHunting) (does (BackingOff a 3 2_100) (sending.BackingOff (millis 2_100)) session.Nothing reset.Nothing false)
+    ∷ row (Waiting a 3 (1_599 + w)) (on TickInside) (does (BackingOff a 3 2_100) (sending.BackingOff (millis 2_100)) session.Nothing reset.Nothing false)
+    ∷ row (Waiting a 3 (1_599 + w)) (on Aborted) (does (BackingOff a 3 2_100) (sending.BackingOff (millis 2_100)) session.Nothing reset.Nothing false)
     ∷ []
 
 abbrev pub backingOffRows : (a b : Asking) (c n l at k f : ℕ) (hunting : Bool) → List JobRow
@@ -253,7 +273,7 @@ heardFresh h o = hears h fresh (o .reception) (o .reply) (o .up) (o .bad) (o .re
 
 -- a link that hears so; of the rest, a restart looks at the job alone
 abbrev pub hearingSo : Role → Hearing → Link
-hearingSo role h = record { core = record { hearing = h; job = Idle; bad = 0; size = 0; choice = record { role = role } }; body = noBody; frame = noFrame }
+hearingSo role h = record { core = record { hearing = h; job = Idle; bad = 0; size = 0; choice = record { role = role; mode = Sooner } }; body = noBody; frame = noFrame }
 
 -- by the definitions that the link's promises cite, with the role, what is awaited and the run of bad sums
 abbrev pub hearingDoes : Role → Awaited → ℕ → Brings → Hearing → Hears
@@ -347,14 +367,16 @@ endRows w bad c k at s t m =
 abbrev pub Starts : Choice → Type 0
 Starts o = (freshCore o .hearing ≡ Hunting) × (freshCore o .job ≡ Idle)
 
--- ---- both tables, whatever the variables are
+-- ---- both tables, whatever the variables are; and whatever was chosen, but for the rows of one mode
 abbrev pub JobTable : (o : Choice) (size : ℕ) (a b : Asking) (c n e l at k f : ℕ) (hunting : Bool) → Type 0
 JobTable o size a b c n e l at k f hunting =
     AllRows o size (idleRows a at k f)
     × (AllRows o size (dueRows a b c n at k f hunting)
     × (AllRows o size (waitingRows (wireTime size) a b c n e at k f hunting)
+    × (AllRows (record { role = o .role; mode = Sooner }) size (soonerRows (wireTime size) a)
+    × (AllRows (record { role = o .role; mode = Spaced }) size (spacedRows (wireTime size) a)
     × (AllRows o size (backingOffRows a b c n l at k f hunting)
-    × AllRows o size (awaitingRows b c n e at k hunting))))
+    × AllRows o size (awaitingRows b c n e at k hunting))))))
 
 -- and whoever hears: but for the frames of Type 00 and 01 the role makes no difference, and there only where a stand-in awaits an ACK
 abbrev pub HearingTable : Role → Awaited → (bad c k at s t m b v : ℕ) → Type 0

@@ -3,6 +3,8 @@
 use Prim.Native.Nat.{ℕ}
 use mathlib.Core.List.{List, [], _∷_, _++_}
 use Rattle.frame.specs.Frame.{ACK, NAK, CAN}
+use Rattle.rules.specs.declared.Role.the-variants.{Module}
+use Rattle.rules.specs.declared.Mode.the-variants.{Spaced}
 use Rattle.report.specs.declared.Reception.{Reception}
 use Rattle.report.specs.declared.Reception.the-variants as reception
 use Rattle.report.specs.declared.Reset.the-variants as reset
@@ -10,7 +12,7 @@ use Rattle.report.specs.declared.Sending.the-variants as sending
 use Rattle.report.specs.declared.Session.the-variants as session
 use Rattle.history.specs.Perform.{Call, session as sessionCall, restart, lent}
 use Rattle.scenes.specs.Scene.{silence, Seen, said}
-use Rattle.scenes.specs.Example.{play, playStandIn, shows, Example}
+use Rattle.scenes.specs.Example.{Question, playAs, play, playStandIn, shows, Example}
 use Rattle.scenes.specs.Table.{frame07, send07, given, bad, good, sendingSays, copy, backsOff, receptionSays}
 
 -- a response 07 received, byte by byte; a frame of the reserved Type 02
@@ -68,11 +70,15 @@ reserved-while-waiting =
       expected = shows (copy 1 0 ∷ answers 0 reception.Reserved ACK ∷ []);
     }
 
+-- a stand-in that names the old mode, which backs off 100 ticks behind a loss
+abbrev pub playStandInSpaced : List Call → Question
+playStandInSpaced = playAs (record { role = Module; mode = Spaced })
+
 -- The wait goes on over what is cancelled: the copy is lost on tick 1,601 all the same. In the back-off nothing is cancelled.
 unfoldable pub lost-all-the-same : Example
 lost-all-the-same =
     record {
-      question = playStandIn (send07 ∷ (silence 1_600 ++ (good ++ (silence 1 ++ good))));
+      question = playStandInSpaced (send07 ∷ (silence 1_600 ++ (good ++ (silence 1 ++ good))));
       expected = shows (copy 1 0 ∷ answers 1_600 reception.Cancelled CAN ∷ backsOff 100 1_601 ∷ answers 1_601 reception.Frame ACK ∷ []);
     }
 
@@ -80,7 +86,7 @@ lost-all-the-same =
 unfoldable pub lost-inside-the-frame : Example
 lost-inside-the-frame =
     record {
-      question = playStandIn (send07 ∷ (silence 1_000 ++ (goodBegun ++ (silence 701 ++ (given 0xFB ∷ [])))));
+      question = playStandInSpaced (send07 ∷ (silence 1_000 ++ (goodBegun ++ (silence 701 ++ (given 0xFB ∷ [])))));
       expected =
           shows
           (copy 1 0

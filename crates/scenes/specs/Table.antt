@@ -1,5 +1,5 @@
 -- Section 10: the examples with a star, in the document's order and words; the times of three of them are those of document 02, P2 (5 bytes take
--- a tick on the wire). A tick's number is that of the accepted ticks so far.
+-- a tick on the wire), and the silent-line cases name the old mode (P4). A tick's number is that of the accepted ticks so far.
 -- Assumes nothing.
 use Prim.Native.Nat.{ℕ}
 use mathlib.Core.List.{List, [], _∷_, _++_}
@@ -17,7 +17,7 @@ use Rattle.report.specs.declared.Session.the-variants as session
 use Rattle.nodes.specs.declared.NodeList.the-variants as nodes
 use Rattle.history.specs.Perform.{Call, byte, send, lent}
 use Rattle.scenes.specs.Scene.{silence, Seen, said}
-use Rattle.scenes.specs.Example.{build, setTimeouts, read, list, play, built, reading, listed, shows, Example}
+use Rattle.scenes.specs.Example.{build, setTimeouts, read, list, play, playSpaced, built, reading, listed, shows, Example}
 
 -- ---- the words of the scenes
 -- the frame that the scenes send: REQ 07, no parameters
@@ -120,30 +120,30 @@ ack-in-time =
       expected = shows (copy 1 0 ∷ sendingSays 1_600 (sending.Acknowledged 1) [] ∷ []);
     }
 
--- Copy 2 of a silent line goes out on tick 1,701.
+-- In the old mode copy 2 of a silent line goes out on tick 1,701.
 unfoldable pub second-copy : Example
 second-copy =
     record {
-      question = play (send07 ∷ silence 1_701);
+      question = playSpaced (send07 ∷ silence 1_701);
       expected = shows (copy 1 0 ∷ backsOff 100 1_601 ∷ copy 2 1_701 ∷ []);
     }
 
--- Silence: copies at ticks 0, 1,701, 4,402, 8,103, failed at 9,704.
+-- Silence in the old mode: copies at ticks 0, 1,701, 4,402, 8,103, failed at 9,704.
 unfoldable pub silent-line : Example
 silent-line =
     record {
-      question = play (send07 ∷ silence 9_704);
+      question = playSpaced (send07 ∷ silence 9_704);
       expected = shows (fourCopies 0 1_601 1_701 3_302 4_402 6_003 8_103 9_704);
     }
 
 -- 15 straight after every copy: copies at 0, 100, 1,200, 3,300, failed at 3,300.
-abbrev pub nakThen : List Call → List Call
-nakThen rest = given 0x15 ∷ rest
+abbrev pub afterEvery : ℕ → List Call
+afterEvery b = send07 ∷ given b ∷ (silence 100 ++ (given b ∷ (silence 1_100 ++ (given b ∷ (silence 2_100 ++ (given b ∷ []))))))
 
 unfoldable pub told-each-time : Example
 told-each-time =
     record {
-      question = play (send07 ∷ nakThen (silence 100 ++ nakThen (silence 1_100 ++ nakThen (silence 2_100 ++ nakThen []))));
+      question = play (afterEvery 0x15);
       expected = shows (fourCopies 0 0 100 100 1_200 1_200 3_300 3_300);
     }
 

@@ -1,4 +1,5 @@
--- Document 02's time on the wire, played: how long a copy waits, by its frame's length. A tick's number is that of the accepted ticks so far.
+-- Document 02's time on the wire, played: how long a copy waits, by its frame's length. Where a copy is lost the old mode is named, which says so with a
+-- back-off each time. A tick's number is that of the accepted ticks so far.
 -- Assumes nothing.
 use Prim.Native.Nat.{ℕ}
 use mathlib.Core.List.{List, [], _∷_, _++_}
@@ -10,7 +11,7 @@ use Rattle.report.specs.declared.Sending.the-variants as sending
 use Rattle.report.specs.declared.Session.the-variants as session
 use Rattle.history.specs.Perform.{Call, send, session as sessionCall, lent}
 use Rattle.scenes.specs.Scene.{silence, Seen, said}
-use Rattle.scenes.specs.Example.{play, shows, Example}
+use Rattle.scenes.specs.Example.{play, playSpaced, shows, Example}
 use Rattle.scenes.specs.Table.{send07, given, sendingSays, copyOf, copy, backsOff, fourCopiesOf}
 
 -- REQ 07 with so many parameters that the frame has 11, 12 or 257 bytes, which take 1, 2 and 23 ticks
@@ -36,14 +37,14 @@ send257 = lent (send 0x00 0x07 (replicate 252 0x5A))
 unfoldable pub ack-too-late : Example
 ack-too-late =
     record {
-      question = play (send07 ∷ (silence 1_601 ++ (given 0x06 ∷ [])));
+      question = playSpaced (send07 ∷ (silence 1_601 ++ (given 0x06 ∷ [])));
       expected = shows (copy 1 0 ∷ backsOff 100 1_601 ∷ sendingSays 1_601 sending.Stray [] ∷ []);
     }
 
 unfoldable pub ack-too-late-11 : Example
 ack-too-late-11 =
     record {
-      question = play (send11 ∷ (silence 1_601 ++ (given 0x06 ∷ [])));
+      question = playSpaced (send11 ∷ (silence 1_601 ++ (given 0x06 ∷ [])));
       expected = shows (copyOf frame11 1 0 ∷ backsOff 100 1_601 ∷ sendingSays 1_601 sending.Stray [] ∷ []);
     }
 
@@ -55,11 +56,11 @@ ack-in-time-12 =
       expected = shows (copyOf frame12 1 0 ∷ sendingSays 1_601 (sending.Acknowledged 1) [] ∷ []);
     }
 
--- Silence, 257 bytes: copies at ticks 0, 1,723, 4,446, 8,169, failed at 9,792.
+-- Silence in the old mode, 257 bytes: copies at ticks 0, 1,723, 4,446, 8,169, failed at 9,792.
 unfoldable pub silent-257 : Example
 silent-257 =
     record {
-      question = play (send257 ∷ silence 9_792);
+      question = playSpaced (send257 ∷ silence 9_792);
       expected = shows (fourCopiesOf frame257 0 1_623 1_723 3_346 4_446 6_069 8_169 9_792);
     }
 
@@ -75,10 +76,10 @@ goesBehind r reply =
     ∷ []
 
 unfoldable pub behind-06 : Example
-behind-06 = record { question = play (dueThen 0xFB); expected = shows (goesBehind reception.Frame 0x06) }
+behind-06 = record { question = playSpaced (dueThen 0xFB); expected = shows (goesBehind reception.Frame 0x06) }
 
 unfoldable pub behind-15 : Example
-behind-15 = record { question = play (dueThen 0xFA); expected = shows (goesBehind reception.BadSum 0x15) }
+behind-15 = record { question = playSpaced (dueThen 0xFA); expected = shows (goesBehind reception.BadSum 0x15) }
 
 -- A session waits 5,000 for its response, as ever: from 06, here the last that counts.
 unfoldable pub response-as-ever : Example

@@ -17,7 +17,8 @@ use Rattle.hearing.specs.declared.hearing.End.the-variants.{BadLength, BadSum, 
 use Rattle.hearing.specs.declared.hearing.Event.{Event}
 use Rattle.hearing.specs.declared.hearing.Event.the-variants.{Inside, Kept, Skipped, Alone, Ended, TickHunting, TickInside, Aborted}
 use Rattle.job.proofs.job.Job.{the-type as job}
-use Rattle.rules.specs.Rules.{base, told}
+use Rattle.rules.specs.Rules.{Rules}
+use Rattle.rules.specs.declared.Cause.the-variants.{Told}
 use Rattle.job.specs.Job.{goesOn, still, lose}
 use Rattle.job.specs.declared.job.Asking.{Asking}
 use Rattle.job.specs.declared.job.Job.{Job}
@@ -27,18 +28,18 @@ use Rattle.report.specs.declared.Sending.the-variants.{Stray}
 use Rattle.sending.specs.Events.{onAnswer, onSingle, release, awaitedBy, onEnd, onEvent}
 
 -- no 06 while waiting: the copy is lost
-pub no-ack : (s : Single) (a : Asking) (n : ℕ) → OneOf (1 ∷ 2 ∷ []) (tagOf single s) → lose base told true a n ≡ onAnswer base s a n
-no-ack Ack a n o = absurd (miss (1 ∷ 2 ∷ []) 0 tt o)
-no-ack Nak a n o = refl
-no-ack Can a n o = refl
+pub no-ack : (R : Rules) (s : Single) (a : Asking) (n : ℕ) → OneOf (1 ∷ 2 ∷ []) (tagOf single s) → lose R Told true a n ≡ onAnswer R s a n
+no-ack R Ack a n o = absurd (miss (1 ∷ 2 ∷ []) 0 tt o)
+no-ack R Nak a n o = refl
+no-ack R Can a n o = refl
 
 -- no copy waits: the byte is stray
-pub no-wait : (s : Single) (j : Job) → OneOf (0 ∷ 1 ∷ 3 ∷ 4 ∷ []) (tagOf job j) → goesOn j Stray ≡ onSingle base s j
-no-wait s Idle o = refl
-no-wait s (Due a n) o = refl
-no-wait s (Waiting a n e) o = absurd (miss (0 ∷ 1 ∷ 3 ∷ 4 ∷ []) 2 tt o)
-no-wait s (BackingOff a n l) o = refl
-no-wait s (Awaiting c n e) o = refl
+pub no-wait : (R : Rules) (s : Single) (j : Job) → OneOf (0 ∷ 1 ∷ 3 ∷ 4 ∷ []) (tagOf job j) → goesOn j Stray ≡ onSingle R s j
+no-wait R s Idle o = refl
+no-wait R s (Due a n) o = refl
+no-wait R s (Waiting a n e) o = absurd (miss (0 ∷ 1 ∷ 3 ∷ 4 ∷ []) 2 tt o)
+no-wait R s (BackingOff a n l) o = refl
+no-wait R s (Awaiting c n e) o = refl
 
 -- no copy is due: the job goes on
 pub none-due : (j : Job) → OneOf (0 ∷ 2 ∷ 3 ∷ 4 ∷ []) (tagOf job j) → still j ≡ release j
@@ -65,12 +66,12 @@ no-response (Request size) j o = refl
 no-response (Response size command) j o = absurd (miss (0 ∷ 1 ∷ 2 ∷ 3 ∷ []) 4 tt o)
 
 -- no single byte, end or tick: the job goes on
-pub no-news : (size : ℕ) (e : Event) (j : Job) → OneOf (0 ∷ 1 ∷ 2 ∷ []) (tagOf event e) → still j ≡ onEvent base size e j
-no-news size Inside j o = refl
-no-news size (Kept at) j o = refl
-no-news size Skipped j o = refl
-no-news size (Alone s) j o = absurd (miss (0 ∷ 1 ∷ 2 ∷ []) 3 tt o)
-no-news size (Ended e) j o = absurd (miss (0 ∷ 1 ∷ 2 ∷ []) 4 tt o)
-no-news size TickHunting j o = absurd (miss (0 ∷ 1 ∷ 2 ∷ []) 5 tt o)
-no-news size TickInside j o = absurd (miss (0 ∷ 1 ∷ 2 ∷ []) 6 tt o)
-no-news size Aborted j o = absurd (miss (0 ∷ 1 ∷ 2 ∷ []) 7 tt o)
+pub no-news : (R : Rules) (size : ℕ) (e : Event) (j : Job) → OneOf (0 ∷ 1 ∷ 2 ∷ []) (tagOf event e) → still j ≡ onEvent R size e j
+no-news R size Inside j o = refl
+no-news R size (Kept at) j o = refl
+no-news R size Skipped j o = refl
+no-news R size (Alone s) j o = absurd (miss (0 ∷ 1 ∷ 2 ∷ []) 3 tt o)
+no-news R size (Ended e) j o = absurd (miss (0 ∷ 1 ∷ 2 ∷ []) 4 tt o)
+no-news R size TickHunting j o = absurd (miss (0 ∷ 1 ∷ 2 ∷ []) 5 tt o)
+no-news R size TickInside j o = absurd (miss (0 ∷ 1 ∷ 2 ∷ []) 6 tt o)
+no-news R size Aborted j o = absurd (miss (0 ∷ 1 ∷ 2 ∷ []) 7 tt o)

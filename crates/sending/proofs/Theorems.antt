@@ -12,11 +12,13 @@ use Rattle.hearing.specs.declared.hearing.Event.{Event}
 use Rattle.reception.specs.declared.said.Awaited.{Awaited}
 use Rattle.job.specs.declared.job.Job.{Job}
 use Rattle.job.specs.declared.job.Act.{Act}
-use Rattle.rules.specs.Rules.{base}
+use Rattle.rules.specs.Rules.{rulesOf}
+use Rattle.rules.specs.declared.Choice.{Choice}
 use Rattle.sending.specs.Events.{onEvent, awaitedBy, awaits, onRestart}
 
-pub on-event-determined : (size : ℕ) (e : Event) (j : Job) {r q : Act} → r ≡ onEvent base size e j → q ≡ onEvent base size e j → r ≡ q
-on-event-determined size e j = fixed
+pub on-event-determined : (c : Choice) (size : ℕ) (e : Event) (j : Job) {r q : Act}
+    → r ≡ onEvent (rulesOf c) size e j → q ≡ onEvent (rulesOf c) size e j → r ≡ q
+on-event-determined c size e j = fixed
 
 pub awaited-by-determined : (j : Job) {r q : Awaited} → r ≡ awaitedBy j → q ≡ awaitedBy j → r ≡ q
 awaited-by-determined j = fixed

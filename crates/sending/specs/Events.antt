@@ -3,7 +3,8 @@
 use Prim.Native.Nat.{ℕ}
 use mathlib.Core.Bool.{Bool, true, false}
 use Rattle.refusals.specs.Pick.{pick}
-use Rattle.rules.specs.Rules.{Rules, told}
+use Rattle.rules.specs.Rules.{Rules}
+use Rattle.rules.specs.declared.Cause.the-variants.{Told}
 use Rattle.job.specs.Job.{goesOn, still, putOut, lose}
 use Rattle.job.specs.Ticks.{onTick, onAbort}
 use Rattle.hearing.specs.declared.hearing.Single.{Single}
@@ -35,8 +36,8 @@ acknowledge (Asks c) n =
 -- 06, 15 or 18 while waiting; such a byte comes while hunting
 abbrev pub onAnswer : Rules → Single → Asking → ℕ → Act
 onAnswer R Ack a n = acknowledge a n
-onAnswer R Nak a n = lose R told true a n
-onAnswer R Can a n = lose R told true a n
+onAnswer R Nak a n = lose R Told true a n
+onAnswer R Can a n = lose R Told true a n
 
 -- In quiet, due or back-off: stray, nothing changes.
 abbrev pub onSingle : Rules → Single → Job → Act

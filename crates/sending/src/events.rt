@@ -15,8 +15,10 @@ use reception::is_awaited;
 use report::Reset;
 use report::Sending;
 use report::Session;
+use rules::Cause;
+use rules::Choice;
 ghost use mathlib.Core.Path.{_≡_};
-ghost use Rattle.rules.specs.Rules.{base};
+ghost use Rattle.rules.specs.Rules.{rulesOf};
 ghost use Rattle.sending.specs.Events as spec;
 
 fn acknowledge(asking: Asking, copies: u8) -> Act
@@ -38,26 +40,26 @@ fn acknowledge(asking: Asking, copies: u8) -> Act
     }
 }
 
-// 06, 15 or 18 while waiting: the copy is acknowledged, or given up.
-fn on_answer(single: Single, asking: Asking, copies: u8) -> Act
-    ensures { λ r. ⌜ r ≡ spec.onAnswer base single asking copies ⌝ }
+// 06, 15 or 18 while waiting, which comes while hunting: the copy is acknowledged, or given up.
+fn on_answer(choice: Choice, single: Single, asking: Asking, copies: u8) -> Act
+    ensures { λ r. ⌜ r ≡ spec.onAnswer (rulesOf choice) single asking copies ⌝ }
 {
     if let Single::Ack = single {
         return acknowledge(asking, copies);
     }
-    lose(asking, copies)
+    lose(choice, Cause::Told, true, asking, copies)
 }
 
 // In any other state such a byte is stray.
-fn on_single(single: Single, job: Job) -> Act
-    ensures { λ r. ⌜ r ≡ spec.onSingle base single job ⌝ }
+fn on_single(choice: Choice, single: Single, job: Job) -> Act
+    ensures { λ r. ⌜ r ≡ spec.onSingle (rulesOf choice) single job ⌝ }
 {
     if let Job::Waiting {
         asking,
         copies,
         elapsed: _,
     } = job {
-        return on_answer(single, asking, copies);
+        return on_answer(choice, single, asking, copies);
     }
     goes_on(job, Sending::Stray)
 }
@@ -147,16 +149,16 @@ fn on_end(end: End, job: Job) -> Act
 }
 
 // What the job does on an event, with a held frame of so many bytes.
-pub fn on_event(size: u16, event: Event, job: Job) -> Act
-    ensures { λ r. ⌜ r ≡ spec.onEvent base size event job ⌝ }
+pub fn on_event(choice: Choice, size: u16, event: Event, job: Job) -> Act
+    ensures { λ r. ⌜ r ≡ spec.onEvent (rulesOf choice) size event job ⌝ }
 {
     match event {
         Event::Inside | Event::Kept { at: _ } | Event::Skipped => goes_on(job, Sending::Nothing),
-        Event::Alone(single) => on_single(single, job),
+        Event::Alone(single) => on_single(choice, single, job),
         Event::Ended(end) => on_end(end, job),
-        Event::TickHunting => on_tick(size, true, job),
-        Event::TickInside => on_tick(size, false, job),
-        Event::Aborted => on_abort(size, job),
+        Event::TickHunting => on_tick(choice, size, true, job),
+        Event::TickInside => on_tick(choice, size, false, job),
+        Event::Aborted => on_abort(choice, size, job),
     }
 }
 

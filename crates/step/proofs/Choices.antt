@@ -14,14 +14,14 @@ use Rattle.job.specs.declared.job.Job.{Job}
 use Rattle.job.specs.declared.job.Job.the-variants.{Idle, Due, Waiting, BackingOff, Awaiting}
 use Rattle.sending.specs.Events.{onSingle, onEvent}
 
-pub tick-alike : (R : Rules) (c : Choice) (size : ℕ) (hunting : Bool) (j : Job) → onTick R size hunting j ≡ onTick (chosen c R) size hunting j
+tick-alike : (R : Rules) (c : Choice) (size : ℕ) (hunting : Bool) (j : Job) → onTick R size hunting j ≡ onTick (chosen c R) size hunting j
 tick-alike R c size hunting Idle = refl
 tick-alike R c size hunting (Due a n) = refl
 tick-alike R c size hunting (Waiting a n e) = refl
 tick-alike R c size hunting (BackingOff a n l) = refl
 tick-alike R c size hunting (Awaiting k n e) = refl
 
-pub abort-alike : (R : Rules) (c : Choice) (size : ℕ) (j : Job) → onAbort R size j ≡ onAbort (chosen c R) size j
+abort-alike : (R : Rules) (c : Choice) (size : ℕ) (j : Job) → onAbort R size j ≡ onAbort (chosen c R) size j
 abort-alike R c size Idle = refl
 abort-alike R c size (Due a n) = refl
 abort-alike R c size (Waiting a n e) = refl

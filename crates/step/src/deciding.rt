@@ -88,7 +88,7 @@ fn decide_open(choice: Choice, job: Job, bad: u8, size: u16, event: Event) -> Ou
     let awaited = awaited_by(job);
     let said = said_on(role, event, awaited);
     let sums = sums_on(event, bad);
-    let act = on_event(size, event, job);
+    let act = on_event(choice, size, event, job);
     decided(said, sums, act)
 }
 
@@ -217,9 +217,9 @@ pub fn decide_tick(choice: Choice, job: Job, bad: u8, size: u16, event: Event) -
     ensures { λ r. ⌜ r ≡ spec.decide (rulesOf choice) size event job bad ⌝ }
 {
     match event {
-        Event::TickHunting => acted(Reception::Nothing, bad, on_tick(size, true, job)),
-        Event::TickInside => acted(Reception::Nothing, bad, on_tick(size, false, job)),
-        Event::Aborted => acted(Reception::Abort, bad, on_abort(size, job)),
+        Event::TickHunting => acted(Reception::Nothing, bad, on_tick(choice, size, true, job)),
+        Event::TickInside => acted(Reception::Nothing, bad, on_tick(choice, size, false, job)),
+        Event::Aborted => acted(Reception::Abort, bad, on_abort(choice, size, job)),
         _ => decide_open(choice, job, bad, size, event),
     }
 }

@@ -1,6 +1,8 @@
 -- `job::job::lose` meets its contract.
 -- Assumes nothing.
-use borrow.Author.Tests.{eq-eqb, ne-eqb, lt-ltb, le-ltb}
+use borrow.Author.Tests.{lt-ltb, le-ltb}
+use native.Mathlib.Omega.{arith}
+use Rattle.rules.proofs.Theorems.{back-at-most-2100}
 use borrow.Author.Needs.{needs}
 use Rattle.job.proofs.job.lose.Statement.{statement}
 use Rattle.job.proofs.job.lose.Tie as tie
@@ -9,38 +11,20 @@ fail-requires : tie.Need-fail-requires
 fail-requires c κs = search needs
 
 returns : tie.Need-returns
-returns c cause hunting = simp (le-ltb _ _ (c .before .if1 .taken), c .fail .ensures)
+returns c = simp (le-ltb _ _ (c .before .if1 .taken), c .fail .ensures)
 
-backing-off-requires : tie.Need-backing-off-requires
-backing-off-requires c κs = search needs
+back-off-after-requires : tie.Need-back-off-after-requires
+back-off-after-requires c κs = search needs
+
+back-off-requires : tie.Need-back-off-requires
+back-off-requires c κs =
+    let a = c .before .before .args in
+    let m = back-at-most-2100 (a .choice .mode) (a .cause) (a .copies) in
+    omega (arith, m, c .back-off-after .ensures)
 
 returns-2 : tie.Need-returns-2
-returns-2 c cause hunting =
-    simp (lt-ltb _ _ (c .before .before .if1 .left), eq-eqb _ _ (c .before .if2 .taken), c .backing-off .ensures)
-
-backing-off-requires-2 : tie.Need-backing-off-requires-2
-backing-off-requires-2 c κs = search needs
-
-returns-3 : tie.Need-returns-3
-returns-3 c cause hunting =
-    simp (lt-ltb _ _ (c .before .before .before .if1 .left), ne-eqb _ _ (c .before .before .if2 .left), eq-eqb _ _ (c .before .if3 .taken), c .backing-off2 .ensures)
-
-backing-off-requires-3 : tie.Need-backing-off-requires-3
-backing-off-requires-3 c κs = search needs
-
-returns-4 : tie.Need-returns-4
-returns-4 c cause hunting =
-    simp (lt-ltb _ _ (c .before .before .before .if1 .left), ne-eqb _ _ (c .before .before .if2 .left), ne-eqb _ _ (c .before .if3 .left), c .backing-off3 .ensures)
+returns-2 c = simp (lt-ltb _ _ (c .before .before .if1 .left), c .before .back-off-after .ensures, c .back-off .ensures)
 
 pub lose-spec : {M : Type 1} → statement M
 lose-spec =
-    tie.close
-    (tie.spec
-    fail-requires
-    returns
-    backing-off-requires
-    returns-2
-    backing-off-requires-2
-    returns-3
-    backing-off-requires-3
-    returns-4)
+    tie.close (tie.spec fail-requires returns back-off-after-requires back-off-requires returns-2)

@@ -1,6 +1,7 @@
 -- `job::ticks::on_tick` meets its contract.
 -- Assumes nothing.
 use mathlib.Core.Path.{_∙_}
+use Rattle.rules.specs.Rules.{rulesOf}
 use Rattle.job.proofs.Else.{none-counts}
 use borrow.Author.Needs.{needs}
 use Rattle.job.proofs.ticks.on_tick.Statement.{statement}
@@ -28,7 +29,7 @@ awaited-requires : tie.Need-awaited-requires
 awaited-requires c κs = search needs
 
 returns : tie.Need-returns
-returns c = c .goes-on .ensures ∙ none-counts (c .before .before .args .size) (c .before .before .args .hunting) (c .before .before .args .job) (c .before .match .keys1)
+returns c = c .goes-on .ensures ∙ none-counts (rulesOf (c .before .before .args .choice)) (c .before .before .args .size) (c .before .before .args .hunting) (c .before .before .args .job) (c .before .match .keys1)
 
 returns-2 : tie.Need-returns-2
 returns-2 c = simp (c .before .before .job .given .1, c .waited .ensures)

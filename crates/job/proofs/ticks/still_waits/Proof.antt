@@ -5,12 +5,12 @@ use mathlib.Core.Path.{ap, sym}
 use lib.Dec.{ltb}
 use borrow.Author.Needs.{needs}
 use borrow.Author.Tests.{lt-ltb}
-use Rattle.rules.specs.Rules.{base}
+use Rattle.rules.specs.Rules.{ackWait}
 use Rattle.job.proofs.ticks.still_waits.Statement.{statement}
 use Rattle.job.proofs.ticks.still_waits.Tie as tie
 
 returns : tie.Need-returns
-returns c = sym (lt-ltb (c .before .before .args .elapsed) (base .wait (c .before .before .args .size)) (omega arith))
+returns c = sym (lt-ltb (c .before .before .args .elapsed) (ackWait (c .before .before .args .size)) (omega arith))
 
 ack-wait-requires : tie.Need-ack-wait-requires
 ack-wait-requires c κs = search needs

@@ -3,7 +3,7 @@
 use native.Mathlib.Omega.{arith}
 use Prim.Native.Nat.{_+_}
 use mathlib.Core.Path.{sym, _∙_}
-use Rattle.rules.specs.Rules.{time, base}
+use Rattle.rules.specs.Rules.{ackWait}
 use Rattle.rules.proofs.Theorems.{wire-at-most-23}
 use borrow.Author.Tests.{ltb-true}
 use borrow.Author.Needs.{needs}
@@ -17,11 +17,11 @@ still-waits-requires : tie.Need-still-waits-requires
 still-waits-requires c κs = search needs
 
 -- no wait is longer than 1,623
-add-t10 : tie.Need-add-t10
-add-t10 c =
+add-t11 : tie.Need-add-t11
+add-t11 c =
     omega (
       arith,
-      ltb-true (c .before .before .args .elapsed + 1) (base .wait (c .before .before .args .size)) (sym (c .before .still-waits .ensures) ∙ c .if1 .taken),
+      ltb-true (c .before .before .args .elapsed + 1) (ackWait (c .before .before .args .size)) (sym (c .before .still-waits .ensures) ∙ c .if1 .taken),
       wire-at-most-23 (c .before .before .args .size),
     )
 
@@ -35,9 +35,8 @@ lose-requires : tie.Need-lose-requires
 lose-requires c κs = search needs
 
 returns-2 : tie.Need-returns-2
-returns-2 c =
-    simp (sym (c .before .before .still-waits .ensures) ∙ c .before .if1 .left) (c .lose .ensures time (c .before .before .before .args .hunting))
+returns-2 c = simp (sym (c .before .before .still-waits .ensures) ∙ c .before .if1 .left, c .lose .ensures)
 
 pub waited-spec : {M : Type 1} → statement M
 waited-spec =
-    tie.close (tie.spec add-still-waits still-waits-requires add-t10 goes-on-requires returns lose-requires returns-2)
+    tie.close (tie.spec add-still-waits still-waits-requires add-t11 goes-on-requires returns lose-requires returns-2)

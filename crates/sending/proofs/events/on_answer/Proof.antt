@@ -1,8 +1,7 @@
 -- `sending::events::on_answer` meets its contract.
 -- Assumes nothing.
 use mathlib.Core.Path.{_∙_}
-use mathlib.Core.Bool.{true}
-use Rattle.rules.specs.Rules.{told}
+use Rattle.rules.specs.Rules.{rulesOf}
 use Rattle.sending.proofs.Else.{no-ack}
 use borrow.Author.Needs.{needs}
 use Rattle.sending.proofs.events.on_answer.Statement.{statement}
@@ -21,7 +20,7 @@ lose-requires : tie.Need-lose-requires
 lose-requires c κs = search needs
 
 returns-2 : tie.Need-returns-2
-returns-2 c = c .lose .ensures told true ∙ no-ack (c .before .before .args .single) (c .before .before .args .asking) (c .before .before .args .copies) (c .before .match .keys2)
+returns-2 c = c .lose .ensures ∙ no-ack (rulesOf (c .before .before .args .choice)) (c .before .before .args .single) (c .before .before .args .asking) (c .before .before .args .copies) (c .before .match .keys2)
 
 pub on-answer-spec : {M : Type 1} → statement M
 on-answer-spec = tie.close (tie.spec enum-told acknowledge-requires returns lose-requires returns-2)

@@ -1,6 +1,7 @@
 -- `sending::events::on_event` meets its contract.
 -- Assumes nothing.
 use mathlib.Core.Path.{_∙_}
+use Rattle.rules.specs.Rules.{rulesOf}
 use Rattle.sending.proofs.Else.{no-news}
 use borrow.Author.Needs.{needs}
 use Rattle.sending.proofs.events.on_event.Statement.{statement}
@@ -40,7 +41,7 @@ on-abort-requires : tie.Need-on-abort-requires
 on-abort-requires c κs = search needs
 
 returns : tie.Need-returns
-returns c = c .goes-on .ensures ∙ no-news (c .before .before .args .size) (c .before .before .args .event) (c .before .before .args .job) (c .before .match .keys1)
+returns c = c .goes-on .ensures ∙ no-news (rulesOf (c .before .before .args .choice)) (c .before .before .args .size) (c .before .before .args .event) (c .before .before .args .job) (c .before .match .keys1)
 
 returns-2 : tie.Need-returns-2
 returns-2 c = simp (c .before .before .event .given .1, c .on-single .ensures)

@@ -1,7 +1,5 @@
 -- `step::deciding::decide_open` meets its contract.
 -- Assumes nothing.
-use Rattle.step.proofs.Choices.{event-alike}
-use Rattle.rules.specs.Rules.{base}
 use borrow.Author.Needs.{needs}
 use Rattle.step.proofs.deciding.decide_open.Statement.{statement}
 use Rattle.step.proofs.deciding.decide_open.Tie as tie
@@ -23,8 +21,7 @@ decided-requires c κs = search needs
 
 returns : tie.Need-returns
 returns c =
-    let a = c .before .before .before .before .before .args in
-    simp (c .before .before .before .before .awaited-by .ensures, c .before .before .before .said-on .ensures, c .before .before .sums-on .ensures, c .before .on-event .ensures, event-alike base (a .choice) (a .size) (a .event) (a .job), c .decided .ensures)
+    simp (c .before .before .before .before .awaited-by .ensures, c .before .before .before .said-on .ensures, c .before .before .sums-on .ensures, c .before .on-event .ensures, c .decided .ensures)
 
 pub decide-open-spec : {M : Type 1} → statement M
 decide-open-spec =

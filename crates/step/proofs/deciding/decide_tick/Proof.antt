@@ -1,8 +1,5 @@
 -- `step::deciding::decide_tick` meets its contract.
 -- Assumes nothing.
-use mathlib.Core.Bool.{true, false}
-use Rattle.step.proofs.Choices.{tick-alike, abort-alike}
-use Rattle.rules.specs.Rules.{base}
 use borrow.Author.Needs.{needs}
 use Rattle.step.proofs.deciding.decide_tick.Statement.{statement}
 use Rattle.step.proofs.deciding.decide_tick.Tie as tie
@@ -38,19 +35,13 @@ decide-open-requires : tie.Need-decide-open-requires
 decide-open-requires c κs = search needs
 
 returns : tie.Need-returns
-returns c =
-    let a = c .before .before .before .before .args in
-    simp (c .before .before .enum-told .given .1, c .acted .ensures, c .before .on-tick .ensures, tick-alike base (a .choice) (a .size) true (a .job))
+returns c = simp (c .before .before .enum-told .given .1, c .acted .ensures, c .before .on-tick .ensures)
 
 returns-2 : tie.Need-returns-2
-returns-2 c =
-    let a = c .before .before .before .before .args in
-    simp (c .before .before .enum-told2 .given .1, c .acted2 .ensures, c .before .on-tick2 .ensures, tick-alike base (a .choice) (a .size) false (a .job))
+returns-2 c = simp (c .before .before .enum-told2 .given .1, c .acted2 .ensures, c .before .on-tick2 .ensures)
 
 returns-3 : tie.Need-returns-3
-returns-3 c =
-    let a = c .before .before .before .before .args in
-    simp (c .before .before .enum-told3 .given .1, c .acted3 .ensures, c .before .on-abort .ensures, abort-alike base (a .choice) (a .size) (a .job))
+returns-3 c = simp (c .before .before .enum-told3 .given .1, c .acted3 .ensures, c .before .on-abort .ensures)
 
 returns-4 : tie.Need-returns-4
 returns-4 c = search needs
