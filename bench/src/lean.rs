@@ -5,6 +5,7 @@
 
 use crate::numbers::{mix, refused, report};
 use crate::ways::Ready;
+use reference::choice::Mode;
 use reference::frame::{ACK, CAN, LEAST_LENGTH, MOST_BODY, MOST_PARAMETERS, NAK, REQ, RES, START};
 use reference::link;
 use reference::reception::Single;
@@ -126,9 +127,10 @@ impl Link {
         Ok((run.len(), quiet))
     }
 
+    /// The mode is that of a link opened without a choice, as all here are.
     fn single(&mut self, single: Single) -> Report {
         let mut said = Report::nothing();
-        said.sending = self.sender.single(single);
+        said.sending = self.sender.single(single, Mode::Sooner);
         match said.sending {
             SendingPart::Acknowledged(copies) => said.session = self.session.acknowledged(copies),
             SendingPart::Failed(copies) => {
