@@ -37,7 +37,6 @@ use Rattle.job.specs.declared.job.Job.{Job}
 use Rattle.job.specs.declared.job.Job.the-variants.{Idle, Due, Waiting, BackingOff, Awaiting}
 use Rattle.report.specs.declared.Sending.the-variants as sending
 use Rattle.report.specs.declared.Session.the-variants as session
-use Rattle.reception.specs.declared.said.Reply.{Reply}
 use Rattle.link.specs.declared.link.Link.{Link}
 use Rattle.history.specs.Perform.{What, byte, bytes, tick, send, session as sessionCall, restart, Call, checksOf, outOf, doneBy}
 use Rattle.history.specs.Cut.{nak}

@@ -8,7 +8,7 @@
 use Prim.Native.Nat.{ℕ, zero, suc, _+_, _≤_}
 use mathlib.Core.Path.{_≡_, refl, ap, ap₂, sym, _∙_, subst}
 use mathlib.Core.Bool.{Bool, false}
-use mathlib.Core.List.{List, [], _∷_, _++_}
+use mathlib.Core.List.{List}
 use native.Mathlib.Omega.{arith}
 use lib.Dec.{ltb}
 use borrow.Author.Tests.{eq-eqb}
@@ -28,10 +28,8 @@ use Rattle.hearing.specs.declared.hearing.End.the-variants as end
 use Rattle.hearing.specs.declared.hearing.Event.{Event}
 use Rattle.hearing.specs.declared.hearing.Event.the-variants.{Ended, TickInside, Aborted}
 use Rattle.hearing.specs.declared.hearing.Heard.{Heard}
-use Rattle.report.specs.declared.Reception.the-variants as reception
 use Rattle.reception.specs.Said.{cancels, saidOn}
 use Rattle.reception.specs.Sums.{sumsOn}
-use Rattle.reception.specs.declared.said.Reply.the-variants as reply
 use Rattle.reception.specs.declared.said.Said.{Said}
 use Rattle.reception.proofs.Theorems.{alike}
 use Rattle.job.specs.Job.{still}

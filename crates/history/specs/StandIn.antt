@@ -1,6 +1,5 @@
 -- The stand-in (document 02, P5): what the byte does that ends a frame which it cancels, and the same link as a host.
 -- Assumes nothing.
-use Prim.Native.Nat.{ℕ}
 use mathlib.Core.Path.{_≡_}
 use mathlib.Core.Bool.{true}
 use mathlib.Core.List.{[], _∷_}

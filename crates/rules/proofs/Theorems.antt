@@ -11,7 +11,7 @@ use Rattle.refusals.proofs.Picks.{pick-ok}
 use Rattle.refusals.specs.Pick.{pick}
 use Rattle.rules.specs.Rules.{isModule, usual, standIn, spaced, backOffs, soonerOffs, backBy, wireTime, rulesOf, base}
 use Rattle.rules.specs.declared.Role.{Role}
-use Rattle.rules.specs.declared.Role.the-variants.{Host, Module}
+use Rattle.rules.specs.declared.Role.the-variants.{Host}
 use Rattle.rules.specs.declared.Mode.{Mode}
 use Rattle.rules.specs.declared.Mode.the-variants.{Sooner, Spaced}
 use Rattle.rules.specs.declared.Cause.{Cause}

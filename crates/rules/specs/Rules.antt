@@ -26,7 +26,7 @@ usual = record { role = Host; mode = Sooner }
 abbrev pub spaced : Choice
 spaced = record { role = Host; mode = Spaced }
 
--- opened as the stand-in for a module
+-- opened as the stand-in for a module, with no mode named
 abbrev pub standIn : Choice
 standIn = record { role = Module; mode = Sooner }
 

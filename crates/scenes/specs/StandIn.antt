@@ -13,7 +13,7 @@ use Rattle.report.specs.declared.Session.the-variants as session
 use Rattle.history.specs.Perform.{Call, session as sessionCall, restart, lent}
 use Rattle.scenes.specs.Scene.{silence, Seen, said}
 use Rattle.scenes.specs.Example.{Question, playAs, play, playStandIn, shows, Example}
-use Rattle.scenes.specs.Table.{frame07, send07, given, bad, good, sendingSays, copy, backsOff, receptionSays}
+use Rattle.scenes.specs.Table.{frame07, send07, given, bad, good, sendingSays, copy, backsOff}
 
 -- a response 07 received, byte by byte; a frame of the reserved Type 02
 abbrev pub response07 : List Call

@@ -10,7 +10,7 @@ pub struct Core {
     pub job: Job,
     // The run of bad sums.
     pub bad: u8,
-    // What the link was opened as. It stands where it makes a link no longer: between a number of one byte and one of two.
+    // What the link was opened as.
     pub choice: Choice,
     // The length of the held frame.
     pub size: u16,
