@@ -48,6 +48,12 @@ def defined(text):
             for n in m.group(1).split():
                 if n not in ("abbrev", "unfoldable", "pub", "opaque"):
                     yield n
+        elif line.startswith("module "):
+            inside = "module"
+        elif inside == "module":
+            m = re.match(r"(?:  )+(?:(?:abbrev|unfoldable|pub|opaque)\s+)*([^\s:({]+)\s+:(?:\s|$)", line)
+            if m:
+                yield m.group(1)
         elif inside:
             m = re.match(r"\s+(?:pub\s+)?((?:[^\s:({]+\s+)+):(?:\s|$)", line)
             if m:

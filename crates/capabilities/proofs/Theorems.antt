@@ -3,7 +3,7 @@
 --     supported_exactly, supported_counts, ones_are_supported, answer_holds_ones          what is supported, and how many are
 --     capabilities_told_lem, support_told_lem, write_capabilities_told    section 3's numbers
 --     number_back            a number of two bytes taken apart and put together again
---     mask-taken             which masks are written; mask-of-33, mask-of-256, mask-of-32, no-mask: the edges
+--     mask_taken             which masks are written; mask_of_33, mask_of_256, mask_of_32, no_mask: the edges
 --     capabilities_alike     with room the writer refuses what the reader refuses, and by the same refusal
 --     capabilities_back      what was written reads back as the same values
 -- Assumes nothing.
@@ -33,7 +33,7 @@ use Rattle.capabilities.specs.declared.Capabilities.TheVariants as capabilities
 use Rattle.capabilities.specs.declared.Support.{Support}
 use Rattle.capabilities.specs.declared.Support.TheVariants as support
 use Rattle.masks.proofs.Layouts.{bytes_from, unmet}
-use Rattle.masks.proofs.Theorems.{write_determined, write_told, write-taken, write-refused, refuses-alike, written_stands}
+use Rattle.masks.proofs.Theorems.{write_determined, write_told, write_taken, write_refused, refuses_alike, written_stands}
 use Rattle.capabilities.proofs.Layouts.{of_capabilities, capabilities_yes, answer_by}
 use Rattle.capabilities.proofs.Writing.{body_length, long_refused}
 use Rattle.masks.proofs.Marked.{marks_one, marks_most, member_to, member_from, marked_rising}
@@ -141,9 +141,9 @@ module _ (version revision manufacturer productType productId : ℕ) (mask : Lis
   whole = capabilities_body version revision manufacturer productType productId mask
 
   -- the body's own tests, but for those of the mask, are met
-  taken-by : is_capabilities whole ≡ pick (ltb 42 (length whole)) false (pick (is_marked mask 256) false true)
+  taken_by_lem : is_capabilities whole ≡ pick (ltb 42 (length whole)) false (pick (is_marked mask 256) false true)
   unfolding capabilities_body
-  taken-by =
+  taken_by_lem =
       let size = body_length version revision manufacturer productType productId mask in
       ap₂
       (λ (t u : Bool). pick (pick t false true) (pick u false (pick (ltb 42 (length whole)) false (pick (is_marked mask 256) false true))) false)
@@ -151,43 +151,43 @@ module _ (version revision manufacturer productType productId : ℕ) (mask : Lis
       (le-ltb (length whole) 10 (omega arith))
 
   -- 0 to 32 mask bytes, and the bit for 256 is 0
-  pub mask-taken : (is_capabilities whole ≡ true) ↔ ((length mask ≤ 32) × (is_marked mask 256 ≡ false))
-  mask-taken =
+  pub mask_taken : (is_capabilities whole ≡ true) ↔ ((length mask ≤ 32) × (is_marked mask 256 ≡ false))
+  mask_taken =
       let size = body_length version revision manufacturer productType productId mask in (
         λ e.
-            let few = unmet (ltb 42 (length whole)) (sym taken-by ∙ e) in
+            let few = unmet (ltb 42 (length whole)) (sym taken_by_lem ∙ e) in
             let h : length whole ≤ 42 = ltb-false 42 (length whole) few.0 in
             (omega arith, (unmet (is_marked mask 256) few.1).0),
-        λ (h, e). taken-by ∙ rw (le-ltb 42 (length whole) (omega arith), e),
+        λ (h, e). taken_by_lem ∙ rw (le-ltb 42 (length whole) (omega arith), e),
       )
 
-  mask-long : 32 < length mask → is_capabilities whole ≡ false
-  mask-long h = long_refused whole (omega (arith, body_length version revision manufacturer productType productId mask))
+  mask_long : 32 < length mask → is_capabilities whole ≡ false
+  mask_long h = long_refused whole (omega (arith, body_length version revision manufacturer productType productId mask))
 
-  mask-marked : is_marked mask 256 ≡ true → is_capabilities whole ≡ false
-  mask-marked e = taken-by ∙ rw e (neither-by (ltb 42 (length whole)))
+  mask_marked : is_marked mask 256 ≡ true → is_capabilities whole ≡ false
+  mask_marked e = taken_by_lem ∙ rw e (neither_by (ltb 42 (length whole)))
     where
-      neither-by : (t : Bool) → pick t false false ≡ false
-      neither-by true = refl
-      neither-by false = refl
+      neither_by : (t : Bool) → pick t false false ≡ false
+      neither_by true = refl
+      neither_by false = refl
 
   module _ {lent : List ℕ} {r : Written} {lent' : List ℕ} (w : WriteCapabilities whole lent r lent') (room : 254 ≤ length lent) where
     -- more than 32 mask bytes are FORM, and so is function 256
-    pub mask-of-33 : 32 < length mask → (r ≡ written.Refused refusal.Form) × (lent' ≡ lent)
-    mask-of-33 h = write-refused w room (mask-long h)
+    pub mask_of_33 : 32 < length mask → (r ≡ written.Refused refusal.Form) × (lent' ≡ lent)
+    mask_of_33 h = write_refused w room (mask_long h)
 
-    pub mask-of-256 : is_marked mask 256 ≡ true → (r ≡ written.Refused refusal.Form) × (lent' ≡ lent)
-    mask-of-256 e = write-refused w room (mask-marked e)
+    pub mask_of_256 : is_marked mask 256 ≡ true → (r ≡ written.Refused refusal.Form) × (lent' ≡ lent)
+    mask_of_256 e = write_refused w room (mask_marked e)
 
     -- up to 32 with the bit for 256 zero are written, and none too
-    pub mask-of-32 : length mask ≤ 32 → is_marked mask 256 ≡ false → (r ≡ written.Body (10 + length mask)) × (lent' ≡ over whole lent)
-    mask-of-32 h e =
-        let stands = write-taken w room (mask-taken.1 (h, e)) in
+    pub mask_of_32 : length mask ≤ 32 → is_marked mask 256 ≡ false → (r ≡ written.Body (10 + length mask)) × (lent' ≡ over whole lent)
+    mask_of_32 h e =
+        let stands = write_taken w room (mask_taken.1 (h, e)) in
         (stands.0 ∙ ap (λ (n : ℕ). written.Body n) (body_length version revision manufacturer productType productId mask), stands.1)
 
-    pub no-mask : mask ≡ [] → r ≡ written.Body 10
-    no-mask e =
-        (mask-of-32 (omega (arith, ap length e)) (ap (λ (m : List ℕ). is_marked m 256) e)).0
+    pub no_mask : mask ≡ [] → r ≡ written.Body 10
+    no_mask e =
+        (mask_of_32 (omega (arith, ap length e)) (ap (λ (m : List ℕ). is_marked m 256) e)).0
         ∙ ap (λ (m : List ℕ). written.Body (10 + length m)) e
 
 -- the reader refuses by FORM alone
@@ -202,8 +202,8 @@ reads_refused body k = by (is_capabilities body)
 pub capabilities_alike : {body lent : List ℕ} {r : Written} {lent' : List ℕ} → WriteCapabilities body lent r lent' → 254 ≤ length lent
     → (k : Refusal) → (r ≡ written.Refused k) ↔ (read_capabilities body ≡ capabilities.Refused k)
 capabilities_alike {body} w room k = (
-  λ e. (reads_refused body k).1 ((refuses-alike w room k).0 e),
-  λ e. (refuses-alike w room k).1 ((reads_refused body k).0 e),
+  λ e. (reads_refused body k).1 ((refuses_alike w room k).0 e),
+  λ e. (refuses_alike w room k).1 ((reads_refused body k).0 e),
 )
 
 -- what was written for these values, read back
@@ -232,7 +232,7 @@ pub capabilities_back : (version revision manufacturer productType productId : �
 capabilities_back version revision manufacturer productType productId mask lent n lent' w =
     let body = capabilities_body version revision manufacturer productType productId mask in
     let stands = written_stands w in
-    let few = ((mask-taken version revision manufacturer productType productId mask).0 stands.taken).0 in
+    let few = ((mask_taken version revision manufacturer productType productId mask).0 stands.taken).0 in
     let size = body_length version revision manufacturer productType productId mask in
     record {
       size = stands.size ∙ size;

@@ -2,7 +2,7 @@
 --     body_length     10 bytes more than the mask has
 --     long_refused    a body of more than 42 bytes is not of the layout
 --     made            the parts laid behind each other are the body, with the mask cut to what there is room for
---     made-written    so what is written of it is what is written of the whole
+--     made_written    so what is written of it is what is written of the whole
 -- Assumes nothing.
 use mathlib.Core.Path.{◌≡◌, refl, sym, ap, ◌∙◌}
 use mathlib.Core.Bool.{Bool, true, false}
@@ -61,12 +61,12 @@ module _ (version revision manufacturer productType productId : ℕ) (mask : Lis
       (laid_behind fixed mask zeros 10 n ten least (omega arith) (laid_front fixed zeros 10 ten (omega arith) first) second)
       ∙ ap (λ (l : List ℕ). l ++ take n mask) e
 
-  pub made-length : (d : List ℕ) → take (10 + n) d ≡ capabilities_body version revision manufacturer productType productId (take n mask)
+  pub made_length : (d : List ℕ) → take (10 + n) d ≡ capabilities_body version revision manufacturer productType productId (take n mask)
       → 10 + n ≡ length (take (10 + n) d)
-  made-length d e =
+  made_length d e =
       omega (arith, ap length e, body_length version revision manufacturer productType productId (take n mask), length-take-le n mask few.0)
 
-  pub made-written : (lent : List ℕ) {body : List ℕ} {reads : Bool} {r : Written} {lent' : List ℕ}
+  pub made_written : (lent : List ℕ) {body : List ℕ} {reads : Bool} {r : Written} {lent' : List ℕ}
       → body ≡ capabilities_body version revision manufacturer productType productId (take n mask)
       → reads ≡ is_capabilities body
       → Write (carried reads body) body lent r lent'
@@ -74,7 +74,7 @@ module _ (version revision manufacturer productType productId : ℕ) (mask : Lis
       (is_capabilities (capabilities_body version revision manufacturer productType productId mask))
       (capabilities_body version revision manufacturer productType productId mask)
       lent r lent'
-  made-written lent {body} e f w =
+  made_written lent {body} e f w =
       let body_of = capabilities_body version revision manufacturer productType productId in
       let size = body_length version revision manufacturer productType productId in
       let short : length (body_of (take n mask)) ≤ 254 = omega (arith, size (take n mask), length-take-le n mask few.0, few.1) in

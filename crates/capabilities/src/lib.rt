@@ -1,4 +1,6 @@
 // Capabilities RES, command 07 (document 01, section 8; 002, 7.3): read, and written.
+#![tactic(auto)]
+
 mod writer;
 
 ghost use Rattle.std.specs.Prelude.{◌≡◌, ◌≤◌, length};
@@ -18,7 +20,7 @@ const MASK_AT: usize = 10;
 
 const LONGEST: usize = 42;
 
-#[derive(Drop)]
+#[derive(Clone, Copy)]
 pub enum Capabilities {
     Refused(Refusal),
     // The last is the number of supported functions.
@@ -32,7 +34,7 @@ pub enum Capabilities {
     },
 }
 
-#[derive(Drop)]
+#[derive(Clone, Copy)]
 pub enum Support {
     Refused(Refusal),
     Supported,

@@ -26,7 +26,7 @@ use Rattle.tally.specs.declared.Tally.{Tally}
 use Rattle.tally.specs.Tally.{end_column, added, tallied, count_byte}
 use Rattle.counting.specs.Counting.{count}
 use Rattle.counting.specs.Promises.{hunting, apart, whole, Ahead, Beyond}
-use Rattle.counting.proofs.Laws.{count-more}
+use Rattle.counting.proofs.Laws.{count_more}
 
 abbrev headed : Counts → Tally
 headed k = record { hearing = Head 0; counts = k }
@@ -126,18 +126,18 @@ take_two n x y l =
     ap (λ (m : ℕ). take m (x ∷ y ∷ l)) e
 
 module _ (bytes : List ℕ) (i : ℕ) (k : Counts) where
-  pub apart-at : i < length bytes → (get_or bytes i 0 ≡ 1 → ⊥) → Ahead bytes (hunting k) i (hunting (added (apart (get_or bytes i 0)) k)) (i + 1)
-  apart-at h n =
+  pub apart_at : i < length bytes → (get_or bytes i 0 ≡ 1 → ⊥) → Ahead bytes (hunting k) i (hunting (added (apart (get_or bytes i 0)) k)) (i + 1)
+  apart_at h n =
       record {
         on = omega arith;
         within = omega arith;
         same =
-            count-more (hunting k) i bytes h
+            count_more (hunting k) i bytes h
             ∙ ap (λ (t : Tally). count t (drop (i + 1) bytes)) (apart_byte k (get_or bytes i 0) n);
       }
 
-  pub short-at : i + 1 < length bytes → get_or bytes i 0 ≡ 1 → get_or bytes (i + 1) 0 < 3 → Ahead bytes (hunting k) i (hunting (added 5 k)) (i + 2)
-  short-at h one short =
+  pub short_at : i + 1 < length bytes → get_or bytes i 0 ≡ 1 → get_or bytes (i + 1) 0 < 3 → Ahead bytes (hunting k) i (hunting (added 5 k)) (i + 2)
+  short_at h one short =
       let a : drop i bytes ≡ 1 ∷ get_or bytes (i + 1) 0 ∷ drop (i + 2) bytes =
       cons_to bytes i (i + 1) (omega arith) refl
       ∙ ap (λ (b : ℕ). b ∷ drop (i + 1) bytes) one
@@ -152,15 +152,15 @@ module _ (bytes : List ℕ) (i : ℕ) (k : Counts) where
     body : List ℕ
     body = take n (drop (i + 3) bytes)
 
-    behind-type : drop (i + 3) bytes ≡ body ++ (get_or bytes (i + 3 + n) 0 ∷ drop (i + 4 + n) bytes)
+    behind_type : drop (i + 3) bytes ≡ body ++ (get_or bytes (i + 3 + n) 0 ∷ drop (i + 4 + n) bytes)
     unfolding body
-    behind-type =
+    behind_type =
         sym (take-append-drop n (drop (i + 3) bytes))
         ∙ ap (λ (l : List ℕ). take n (drop (i + 3) bytes) ++ l)
         (drop-drop n (i + 3) bytes ∙ cons_to bytes (i + 3 + n) (i + 4 + n) (omega arith) (omega arith))
 
-    behind-length : drop (i + 1) bytes ≡ (n + 2) ∷ get_or bytes (i + 2) 0 ∷ drop (i + 3) bytes
-    behind-length =
+    behind_length : drop (i + 1) bytes ≡ (n + 2) ∷ get_or bytes (i + 2) 0 ∷ drop (i + 3) bytes
+    behind_length =
         cons_to bytes (i + 1) (i + 2) (omega arith) (omega arith)
         ∙ ap (λ (b : ℕ). b ∷ drop (i + 2) bytes) two
         ∙ ap (λ (l : List ℕ). (n + 2) ∷ l) (cons_to bytes (i + 2) (i + 3) (omega arith) (omega arith))
@@ -169,8 +169,8 @@ module _ (bytes : List ℕ) (i : ℕ) (k : Counts) where
     laid_out =
         cons_to bytes i (i + 1) (omega arith) refl
         ∙ ap (λ (b : ℕ). b ∷ drop (i + 1) bytes) one
-        ∙ ap (λ (l : List ℕ). 1 ∷ l) behind-length
-        ∙ ap (λ (l : List ℕ). 1 ∷ (n + 2) ∷ get_or bytes (i + 2) 0 ∷ l) behind-type
+        ∙ ap (λ (l : List ℕ). 1 ∷ l) behind_length
+        ∙ ap (λ (l : List ℕ). 1 ∷ (n + 2) ∷ get_or bytes (i + 2) 0 ∷ l) behind_type
 
     body_length : length body ≡ n
     unfolding body
@@ -178,14 +178,14 @@ module _ (bytes : List ℕ) (i : ℕ) (k : Counts) where
 
     folded : take (n + 2) (drop (i + 1) bytes) ≡ (n + 2) ∷ get_or bytes (i + 2) 0 ∷ body
     unfolding body
-    folded = ap (λ (l : List ℕ). take (n + 2) l) behind-length ∙ take_two n (n + 2) (get_or bytes (i + 2) 0) (drop (i + 3) bytes)
+    folded = ap (λ (l : List ℕ). take (n + 2) l) behind_length ∙ take_two n (n + 2) (get_or bytes (i + 2) 0) (drop (i + 3) bytes)
 
-    whole-there : 1 ≤ n
+    whole_there : 1 ≤ n
         → count (hunting k) (drop i bytes)
         ≡ count
         (hunting (added (whole (get_or bytes (i + 2) 0) (fold 255 (take (n + 2) (drop (i + 1) bytes))) (get_or bytes (i + 3 + n) 0)) k))
         (drop (i + 4 + n) bytes)
-    whole-there h =
+    whole_there h =
         ap (λ (l : List ℕ). count (hunting k) l) laid_out
         ∙ frame_bytes k (n + 2) (get_or bytes (i + 2) 0) (get_or bytes (i + 3 + n) 0) body (drop (i + 4 + n) bytes) (omega arith)
         (omega (arith, body_length))
@@ -197,12 +197,12 @@ module _ (bytes : List ℕ) (i : ℕ) (k : Counts) where
         ≡ count
         (hunting (added (whole (get_or bytes (i + 2) 0) (fold 255 (take size (drop (i + 1) bytes))) (get_or bytes last 0)) k))
         (drop next bytes)
-    whole_to size last next a b c h = rw (a, b, c) (whole-there h)
+    whole_to size last next a b c h = rw (a, b, c) (whole_there h)
 
-  pub whole-at : (size last : ℕ) → get_or bytes i 0 ≡ 1 → get_or bytes (i + 1) 0 ≡ size → 3 ≤ size → last ≡ i + 1 + size → last < length bytes
+  pub whole_at : (size last : ℕ) → get_or bytes i 0 ≡ 1 → get_or bytes (i + 1) 0 ≡ size → 3 ≤ size → last ≡ i + 1 + size → last < length bytes
       → Ahead bytes (hunting k) i
       (hunting (added (whole (get_or bytes (i + 2) 0) (fold 255 (take size (drop (i + 1) bytes))) (get_or bytes last 0)) k)) (last + 1)
-  whole-at size last one two least e fits =
+  whole_at size last one two least e fits =
       record {
         on = omega arith;
         within = omega arith;
@@ -217,14 +217,14 @@ pub ahead_none : (bytes : List ℕ) (t : Tally) (i : ℕ) → i ≤ length bytes
 ahead_none bytes t i h = record { on = omega arith; within = h; same = refl }
 
 module _ {bytes : List ℕ} {t u v : Tally} {i j m : ℕ} where
-  pub ahead-ahead : Ahead bytes t i u j → Ahead bytes u j v m → Ahead bytes t i v m
-  ahead-ahead a b = record { on = omega arith; within = b.within; same = a.same ∙ b.same }
+  pub ahead_ahead : Ahead bytes t i u j → Ahead bytes u j v m → Ahead bytes t i v m
+  ahead_ahead a b = record { on = omega arith; within = b.within; same = a.same ∙ b.same }
 
-  pub ahead-on : Ahead bytes t i u j → Beyond bytes u j v m → Ahead bytes t i v m
-  ahead-on a b = record { on = omega arith; within = b.within; same = a.same ∙ b.same }
+  pub ahead_on : Ahead bytes t i u j → Beyond bytes u j v m → Ahead bytes t i v m
+  ahead_on a b = record { on = omega arith; within = b.within; same = a.same ∙ b.same }
 
-  pub ahead-onward : Ahead bytes t i u j → Beyond bytes u j v m → Beyond bytes t i v m
-  ahead-onward a b = record { on = omega arith; within = b.within; same = a.same ∙ b.same }
+  pub ahead_onward : Ahead bytes t i u j → Beyond bytes u j v m → Beyond bytes t i v m
+  ahead_onward a b = record { on = omega arith; within = b.within; same = a.same ∙ b.same }
 
 -- The tally, or the counts, that a call answered.
 pub tally_is : {bytes : List ℕ} {t u w : Tally} {i j : ℕ} → w ≡ u → Ahead bytes t i u j → Ahead bytes t i w j
@@ -238,7 +238,7 @@ byte_at bytes t u i h e =
     record {
       on = omega arith;
       within = omega arith;
-      same = count-more t i bytes h ∙ ap (λ (w : Tally). count w (drop (i + 1) bytes)) (sym e);
+      same = count_more t i bytes h ∙ ap (λ (w : Tally). count w (drop (i + 1) bytes)) (sym e);
     }
 
 -- A tally that hunts is its counts.

@@ -65,12 +65,12 @@ events_length h [] = refl
 events_length h (b ∷ bs) = ap suc (events_length (hear_byte b h).hearing bs)
 
 module _ (bytes : List ℕ) (h : length bytes ≤ 18446744073709551615) where
-  column-exact : (c : ℕ) → up c 0 (events Hunting bytes) ≡ number c (events Hunting bytes)
-  column-exact c =
+  column_exact : (c : ℕ) → up c 0 (events Hunting bytes) ≡ number c (events Hunting bytes)
+  column_exact c =
       let r : up c 0 (events Hunting bytes) ≡ 0 + number c (events Hunting bytes) =
       up_number c 0 (events Hunting bytes) (omega (arith, events_length Hunting bytes)) in
       omega (arith, r)
 
-  pub counted-exact : (count fresh bytes).counts ≡ numbers (events Hunting bytes)
+  pub counted_exact : (count fresh bytes).counts ≡ numbers (events Hunting bytes)
   unfolding ups
-  counted-exact = counted_ups fresh bytes ∙ simp (column-exact)
+  counted_exact = counted_ups fresh bytes ∙ simp (column_exact)

@@ -1,6 +1,6 @@
 -- Counting at what is left of the bytes.
---     count-end   nothing is left
---     count-more  one byte more
+--     count_end   nothing is left
+--     count_more  one byte more
 -- Assumes nothing.
 use mathlib.Core.Path.{◌≡◌}
 use mathlib.Core.List.{List}
@@ -13,10 +13,10 @@ use Rattle.tally.specs.Tally.{count_byte}
 use Rattle.counting.specs.Counting.{count}
 
 module _ (t : Tally) (i : ℕ) (bytes : List ℕ) where
-  pub count-end : length bytes ≤ i → count t (drop i bytes) ≡ t
+  pub count_end : length bytes ≤ i → count t (drop i bytes) ≡ t
   unfolding count
-  count-end h = simp (drop_of_length-le bytes h)
+  count_end h = simp (drop_of_length-le bytes h)
 
-  pub count-more : i < length bytes → count t (drop i bytes) ≡ count (count_byte (get_or bytes i 0) t) (drop (i + 1) bytes)
+  pub count_more : i < length bytes → count t (drop i bytes) ≡ count (count_byte (get_or bytes i 0) t) (drop (i + 1) bytes)
   unfolding count
-  count-more h = rw (add-one i, drop-cons bytes i 0 h)
+  count_more h = rw (add-one i, drop-cons bytes i 0 h)

@@ -2,7 +2,7 @@
 -- Assumes nothing.
 use mathlib.Core.Path.{◌≡◌, refl}
 use mathlib.Core.List.{List, [], ◌∷◌, ◌++◌}
-use Prim.Native.Nat.{ℕ, ◌+◌, ◌≤◌}
+use Prim.Native.Nat.{ℕ, ◌≤◌}
 use native.Mathlib.Omega.{arith}
 use lib.ListN.{length}
 use Rattle.refusals.proofs.Theorems.{fixed}
@@ -11,7 +11,7 @@ use Rattle.tally.specs.declared.Tally.{Tally}
 use Rattle.tally.specs.Tally.{count_byte, fresh}
 use Rattle.counting.specs.Counting.{count}
 use Rattle.counting.specs.Exact.{events, hearing_after, numbers}
-use Rattle.counting.proofs.Exact.{counted-exact}
+use Rattle.counting.proofs.Exact.{counted_exact}
 
 -- Section 12: the promise determines its answer.
 
@@ -26,7 +26,7 @@ pieces_are_whole t (x ∷ a) b = pieces_are_whole (count_byte x t) a b
 
 -- Section 9 reads at most 16,777,216 bytes. Over these each count is the number of events of its column: no count meets the largest number.
 pub counts_exact : (bytes : List ℕ) → length bytes ≤ 16777216 → (count fresh bytes).counts ≡ numbers (events Hunting bytes)
-counts_exact bytes h = counted-exact bytes (omega arith)
+counts_exact bytes h = counted_exact bytes (omega arith)
 
 -- Counting does not change what is heard.
 pub heard_the_same : (t : Tally) (bytes : List ℕ) → (count t bytes).hearing ≡ hearing_after t.hearing bytes

@@ -1,4 +1,6 @@
 // Counting (document 01, section 9): what stands in raw bytes, many bytes at once where no frame is cut short.
+#![tactic(auto)]
+
 ghost use Rattle.std.specs.Prelude.{◌≡◌, ◌<◌, ◌≤◌, length, get_or};
 ghost use Rattle.tally.specs.Tally.{added};
 ghost use Rattle.counting.specs.Counting.{count};
@@ -9,14 +11,14 @@ use hearing::Hearing;
 use tally::{Counts, Tally};
 
 // Counts part of the way through the bytes: those before `at` are counted, and the hearing hunts there.
-#[derive(Drop)]
+#[derive(Clone, Copy)]
 struct Stretch {
     counts: Counts,
     at: usize,
 }
 
 // The same at any place, inside a frame too.
-#[derive(Drop)]
+#[derive(Clone, Copy)]
 struct Turn {
     tally: Tally,
     at: usize,

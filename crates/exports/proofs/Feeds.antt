@@ -1,8 +1,8 @@
 -- One call more, at what is left of the bytes or of the ticks.
---     bytes_on, bytes-end   every byte in a call of its own
---     ticks-..              ticks
+--     bytes_on, bytes_end   every byte in a call of its own
+--     ticks_..              ticks
 --     ended                 what is reached is what is answered
---     asked-.., heard_on    how a link is made ready
+--     asked_.., heard_on    how a link is made ready
 --     ready_on              what is fed to a link that was made ready
 -- Assumes nothing.
 use Rattle.std.proofs.Common.{◌≡◌, ℕ, ◌+◌, ◌-◌, ◌<◌, ◌≤◌, Bool, true, false, List, length, get_or, drop, sym, refl, ap, ◌∙◌, add-one, arith, drop_of_length-le, drop-cons}
@@ -37,40 +37,40 @@ module _ (line₀ up₀ : List ℕ) (l : Link) (line up : List ℕ) (s : ℕ) wh
   f = at l line up s
 
   module _ (i : ℕ) (bytes : List ℕ) where
-    pub bytes-end : length bytes ≤ i → bytes_fed k f (drop i bytes) ≡ f
+    pub bytes_end : length bytes ≤ i → bytes_fed k f (drop i bytes) ≡ f
     unfolding bytes_fed
-    bytes-end h = simp (drop_of_length-le bytes h)
+    bytes_end h = simp (drop_of_length-le bytes h)
 
-    bytes-more : i < length bytes → bytes_fed k f (drop i bytes) ≡ bytes_fed k (byte_fed k f (get_or bytes i 0)) (drop (i + 1) bytes)
+    bytes_more : i < length bytes → bytes_fed k f (drop i bytes) ≡ bytes_fed k (byte_fed k f (get_or bytes i 0)) (drop (i + 1) bytes)
     unfolding bytes_fed
-    bytes-more h = rw (drop-cons bytes i 0 h) (simp add-one)
+    bytes_more h = rw (drop-cons bytes i 0 h) (simp add-one)
 
     pub bytes_on : (line' up' : List ℕ) (r : Answered) (n m : ℕ) → i < length bytes
         → length line ≡ length line₀ → length up ≡ length up₀
         → CallPromise Passes (byte_out (rules_of l.core.choice) l (get_or bytes i 0)) l line up r line' up' → n ≡ mix s m → m ≡ answer_number r.answer
         → bytes_fed k f (drop i bytes) ≡ bytes_fed k (at r.link line' up' n) (drop (i + 1) bytes)
     bytes_on line' up' r n m h p q x e a =
-        bytes-more h
+        bytes_more h
         ∙ ap (λ (g : Fed). bytes_fed k g (drop (i + 1) bytes)) (fed Passes k (byte_out (rules_of l.core.choice) l (get_or bytes i 0)) l line up line' up' r s n m (same_checks Passes line up line₀ up₀ p q) x e a)
 
   module _ (i n : ℕ) where
-    pub ticks-start : i ≡ 0 → ticks_fed k f n ≡ ticks_fed k f (n - i)
-    ticks-start h = let e : n ≡ n - i = omega (arith, h) in ap (ticks_fed k f) e
+    pub ticks_start : i ≡ 0 → ticks_fed k f n ≡ ticks_fed k f (n - i)
+    ticks_start h = let e : n ≡ n - i = omega (arith, h) in ap (ticks_fed k f) e
 
-    pub ticks-end : n ≤ i → ticks_fed k f (n - i) ≡ f
+    pub ticks_end : n ≤ i → ticks_fed k f (n - i) ≡ f
     unfolding ticks_fed
-    ticks-end h = let e : n - i ≡ 0 = omega (arith, h) in rw e refl
+    ticks_end h = let e : n - i ≡ 0 = omega (arith, h) in rw e refl
 
-    ticks-more : i < n → ticks_fed k f (n - i) ≡ ticks_fed k (tick_fed k f) (n - (i + 1))
+    ticks_more : i < n → ticks_fed k f (n - i) ≡ ticks_fed k (tick_fed k f) (n - (i + 1))
     unfolding ticks_fed
-    ticks-more h = let e : n - i ≡ n - (i + 1) + 1 = omega (arith, h) in rw (e ∙ add-one (n - (i + 1))) refl
+    ticks_more h = let e : n - i ≡ n - (i + 1) + 1 = omega (arith, h) in rw (e ∙ add-one (n - (i + 1))) refl
 
-    pub ticks-on : (line' up' : List ℕ) (r : Answered) (t m : ℕ) → i < n
+    pub ticks_on : (line' up' : List ℕ) (r : Answered) (t m : ℕ) → i < n
         → length line ≡ length line₀ → length up ≡ length up₀
         → CallPromise Passes (tick_out (rules_of l.core.choice) l) l line up r line' up' → t ≡ mix s m → m ≡ answer_number r.answer
         → ticks_fed k f (n - i) ≡ ticks_fed k (at r.link line' up' t) (n - (i + 1))
-    ticks-on line' up' r t m h p q x e a =
-        ticks-more h
+    ticks_on line' up' r t m h p q x e a =
+        ticks_more h
         ∙ ap (λ (g : Fed). ticks_fed k g (n - (i + 1))) (fed Passes k (tick_out (rules_of l.core.choice) l) l line up line' up' r s t m (same_checks Passes line up line₀ up₀ p q) x e a)
 
 -- what is reached is what is answered
@@ -84,13 +84,13 @@ ended f l line up s e =
 
 -- ---- how a link is made ready
 module _ (ps line up : List ℕ) (l fresh : Link) (same : l ≡ fresh) where
-  pub asked-on : (asks : Bool) (line' up' : List ℕ) (r : Answered) → asks ≡ true
+  pub asked_on : (asks : Bool) (line' up' : List ℕ) (r : Answered) → asks ≡ true
       → CallPromise (session_own l.core.job (length ps)) (open_out l (Asks 7) (frame_of 0 7 ps)) l line up r line' up'
       → asked asks ps (at fresh line up 0) ≡ at r.link line' up' 0
-  asked-on asks line' up' r e x = simp (e, x.answer, x.line_left, x.up_left, same)
+  asked_on asks line' up' r e x = simp (e, x.answer, x.line_left, x.up_left, same)
 
-  pub asked-not : (asks : Bool) → asks ≡ false → asked asks ps (at fresh line up 0) ≡ at l line up 0
-  asked-not asks e = simp (e, same)
+  pub asked_not : (asks : Bool) → asks ≡ false → asked asks ps (at fresh line up 0) ≡ at l line up 0
+  asked_not asks e = simp (e, same)
 
 pub heard_on : (bs : List ℕ) (f : Fed) (l l' : Link) (line up line' up' : List ℕ) (s : ℕ) → f ≡ at l line up 0
     → bytes_fed (checks line up Passes) (at l line up 0) bs ≡ at l' line' up' s → heard_fed bs f ≡ at l' line' up' 0

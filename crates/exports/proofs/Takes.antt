@@ -1,6 +1,6 @@
 -- Runs until all bytes are taken.
 --     taken_most   a run takes no more bytes than it is given
---     runs-..      one run more, at what is left of the bytes
+--     runs_..      one run more, at what is left of the bytes
 -- Assumes nothing.
 use Rattle.std.proofs.Common.{◌≡◌, ℕ, zero, suc, ◌+◌, ◌-◌, ◌<◌, ◌≤◌, min, false, eqb, List, [], ◌∷◌, length, take, drop, sym, refl, ap, ◌∙◌, arith, length-drop, drop_of_length-le, length-take, drop-drop, eq-eqb, ne_eqb}
 use Rattle.rules.specs.Rules.{Rules, rules_of}
@@ -52,10 +52,10 @@ module _ (line₀ up₀ : List ℕ) (most : ℕ) (input : List ℕ) where
     abbrev rest : List ℕ
     rest = drop i input
 
-    pub runs-end : (fuel : ℕ) → length input ≤ i → runs_fed fuel k most f rest ≡ f
+    pub runs_end : (fuel : ℕ) → length input ≤ i → runs_fed fuel k most f rest ≡ f
     unfolding runs_fed
-    runs-end zero h = refl
-    runs-end (suc n) h = simp (drop_of_length-le input h)
+    runs_end zero h = refl
+    runs_end (suc n) h = simp (drop_of_length-le input h)
 
     module _ (bytes line' up' : List ℕ) (r : Ran) (number taken n m : ℕ) (is : bytes ≡ part most rest) (p : length line ≡ length line₀) (q : length up ≡ length up₀) (x : RunPromise (run_out (rules_of l.core.choice) l bytes) l line up r line' up') (a : number ≡ run_number r.answer) (t : taken ≡ run_taken r.answer) (e : n ≡ mix s number) (g : m ≡ mix n taken) where
       abbrev own : Checked
@@ -64,35 +64,35 @@ module _ (line₀ up₀ : List ℕ) (most : ℕ) (input : List ℕ) where
       same : own ≡ k
       same = same_checks Passes line up line₀ up₀ p q
 
-      ran-as : r ≡ ran_by k f (part most rest)
-      ran-as = x.answer ∙ ap (λ (z : Checked). ran_by z f bytes) same ∙ ap (ran_by k f) is
+      ran_as : r ≡ ran_by k f (part most rest)
+      ran_as = x.answer ∙ ap (λ (z : Checked). ran_by z f bytes) same ∙ ap (ran_by k f) is
 
       took : taken ≡ run_taken (ran_by k f (part most rest)).answer
-      took = t ∙ ap (λ (z : Ran). run_taken z.answer) ran-as
+      took = t ∙ ap (λ (z : Ran). run_taken z.answer) ran_as
 
-      pub taken-left : taken ≤ length input - i
-      taken-left =
+      pub taken_left : taken ≤ length input - i
+      taken_left =
           let h = taken_most k l (part most rest) in
           let w = part_most most rest in
           let d = length-drop i input in
           omega (arith, took, h, w, d)
 
-      fed-as : run_fed own f bytes ≡ at r.link line' up' m
-      fed-as = simp (g, e, a, t, x.answer, x.line_left, x.up_left)
+      fed_as : run_fed own f bytes ≡ at r.link line' up' m
+      fed_as = simp (g, e, a, t, x.answer, x.line_left, x.up_left)
 
-      run-as : run_fed k f (part most rest) ≡ at r.link line' up' m
-      run-as =
+      run_as : run_fed k f (part most rest) ≡ at r.link line' up' m
+      run_as =
           ap (run_fed k f) (sym is)
           ∙ ap (λ (z : Checked). run_fed z f bytes) (sym same)
-          ∙ fed-as
+          ∙ fed_as
 
       some : i < length input → eqb (length rest) 0 ≡ false
       some h = ne_eqb (length rest) 0 (λ z. let d = length-drop i input in omega (arith, z, d, h))
 
-      pub runs-stop : (fuel : ℕ) → i < length input → 0 < fuel → taken ≡ 0 → runs_fed fuel k most f rest ≡ at r.link line' up' m
+      pub runs_stop : (fuel : ℕ) → i < length input → 0 < fuel → taken ≡ 0 → runs_fed fuel k most f rest ≡ at r.link line' up' m
       unfolding runs_fed
-      runs-stop zero h lt z = absurd (omega (arith, lt))
-      runs-stop (suc fuel) h lt z = rw (some h) (rw (eq-eqb (run_taken (ran_by k f (part most rest)).answer) 0 (sym took ∙ z)) run-as)
+      runs_stop zero h lt z = absurd (omega (arith, lt))
+      runs_stop (suc fuel) h lt z = rw (some h) (rw (eq-eqb (run_taken (ran_by k f (part most rest)).answer) 0 (sym took ∙ z)) run_as)
 
       pub runs_on : (fuel : ℕ) → i < length input → 0 < fuel → (taken ≡ 0 → ⊥)
           → runs_fed fuel k most f rest ≡ runs_fed (fuel - 1) k most (at r.link line' up' m) (drop (i + taken) input)
@@ -102,7 +102,7 @@ module _ (line₀ up₀ : List ℕ) (most : ℕ) (input : List ℕ) where
           let d : suc fuel - 1 ≡ fuel = omega arith in
           rw (some h)
           (rw (ne_eqb (run_taken (ran_by k f (part most rest)).answer) 0 (λ w. z (took ∙ w)))
-          (ap (λ (y : Fed). runs_fed fuel k most y (drop (run_taken (ran_by k f (part most rest)).answer) rest)) run-as
+          (ap (λ (y : Fed). runs_fed fuel k most y (drop (run_taken (ran_by k f (part most rest)).answer) rest)) run_as
           ∙ ap (λ (y : ℕ). runs_fed fuel k most (at r.link line' up' m) (drop y rest)) (sym took)
           ∙ ap (runs_fed fuel k most (at r.link line' up' m)) (drop-drop taken i input)
           ∙ ap (λ (y : ℕ). runs_fed y k most (at r.link line' up' m) (drop (i + taken) input)) (sym d)))

@@ -1,4 +1,6 @@
 // What other languages call: functions on numbers and byte slices under plain C names. The bench links them.
+#![tactic(auto)]
+
 mod counts;
 mod frames;
 mod numbers;

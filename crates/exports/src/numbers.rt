@@ -9,7 +9,7 @@ use report::{Reception, Report, Reset, Sending, Session};
 pub const REFUSED: u64 = 1000000;
 
 // The number of a run's report, and how many bytes it took; a refused run took none.
-#[derive(Drop)]
+#[derive(Clone, Copy)]
 pub struct Tale {
     pub number: u64,
     pub taken: usize,
@@ -19,9 +19,9 @@ pub struct Tale {
 pub fn mix(sum: u64, number: u64) -> u64
     ensures { result ≡ spec.mix sum number }
 {
-    let twice = std::num::wrapping_add_u64(sum, sum);
-    let thrice = std::num::wrapping_add_u64(twice, sum);
-    std::num::wrapping_add_u64(thrice, number)
+    let twice = sum.wrapping_add(sum);
+    let thrice = twice.wrapping_add(sum);
+    thrice.wrapping_add(number)
 }
 
 fn reception_number(reception: Reception) -> u64

@@ -1,2 +1,4 @@
 // The calls of a link by value, for other languages: whole inputs, under plain C names. The bench links them.
+#![tactic(auto)]
+
 mod runs;

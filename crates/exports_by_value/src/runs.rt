@@ -10,7 +10,7 @@ use exports::{answer_number, mix, tale_of};
 use link::Link;
 
 // What a link came to, and the number so far.
-#[derive(Drop)]
+#[derive(Clone, Copy)]
 struct FedLink {
     link: Link,
     sum: u64,

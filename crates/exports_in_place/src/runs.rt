@@ -16,7 +16,7 @@ use rules::Choice;
 use step::Core;
 
 // What the link's numbers came to, and the number so far.
-#[derive(Drop)]
+#[derive(Clone, Copy)]
 struct FedCore {
     core: Core,
     sum: u64,

@@ -28,18 +28,18 @@ head_over d a b k m h =
 
 module _ (d ps : List ℕ) (kind command : ℕ) (room : length ps + 5 ≤ length d) where
   -- the parameters behind them
-  pub laid-over : {d' : List ℕ} → d' ≡ paste (headed d 1 (length ps + 3) kind command) 4 ps (length ps) → d' ≡ over (1 ∷ counted kind command ps) d
-  laid-over laid =
+  pub laid_over : {d' : List ℕ} → d' ≡ paste (headed d 1 (length ps + 3) kind command) 4 ps (length ps) → d' ≡ over (1 ∷ counted kind command ps) d
+  laid_over laid =
       laid
       ∙ ap (λ (l : List ℕ). paste l 4 ps (length ps)) (head_over d 1 (length ps + 3) kind command (omega arith))
       ∙ put_bytes (1 ∷ (length ps + 3) ∷ kind ∷ command ∷ []) ps d (length ps) (le_refl (length ps))
       ∙ ap (λ (l : List ℕ). over (1 ∷ (length ps + 3) ∷ kind ∷ command ∷ l) d) (take-length ps)
 
   -- the checksum behind these
-  pub framed-over : {d' : List ℕ} {v : ℕ} → d' ≡ over (1 ∷ counted kind command ps) d → v ≡ checksum (counted kind command ps)
+  pub framed_over : {d' : List ℕ} {v : ℕ} → d' ≡ over (1 ∷ counted kind command ps) d → v ≡ checksum (counted kind command ps)
       → set d' (length ps + 4) v ≡ over (frame_of kind command ps) d
   unfolding frame_of
-  framed-over {d'} {v} e s =
+  framed_over {d'} {v} e s =
       let at : length ps + 4 ≡ length (1 ∷ counted kind command ps) = omega arith in
       ap (λ (l : List ℕ). set l (length ps + 4) v) e
       ∙ ap (λ (i : ℕ). set (over (1 ∷ counted kind command ps) d) i v) at

@@ -8,7 +8,7 @@ ghost use Rattle.frame.specs.Frame as spec;
 use crate::{MAX_PARAMETERS, RES, SEED, START};
 use refusals::Refusal;
 
-#[derive(Drop)]
+#[derive(Clone, Copy)]
 pub enum Built {
     Refused(Refusal),
     // The frame's length: it stands in the first bytes of the lent buffer.

@@ -1,4 +1,6 @@
 // The data frame (document 01, sections 2 and 3): built and folded. No state. Reading one is the crate `reading`.
+#![tactic(auto)]
+
 mod builder;
 mod bytes;
 

@@ -9,7 +9,7 @@ use frame::{ACK, CAN, MAX_BODY, MIN_LENGTH, NAK, REQ, RES, SEED, START};
 use units::Millis;
 
 // A half-received frame behind its Length, in numbers; its bytes are kept in the link's body.
-#[derive(Drop)]
+#[derive(Clone, Copy)]
 pub struct Partial {
     pub clock: u16,
     // Body bytes in all (Length - 1), and how many have come.
@@ -21,7 +21,7 @@ pub struct Partial {
     pub command: u8,
 }
 
-#[derive(Drop)]
+#[derive(Clone, Copy)]
 pub enum Hearing {
     Hunting,
     // 01 has come, Length is next.
@@ -34,7 +34,7 @@ impl Hearing {
     pub const FRAME_TIME: Millis = Millis(1500);
 }
 
-#[derive(Drop)]
+#[derive(Clone, Copy)]
 pub enum Single {
     Ack,
     Nak,
@@ -42,7 +42,7 @@ pub enum Single {
 }
 
 // How a frame ends at a byte.
-#[derive(Drop)]
+#[derive(Clone, Copy)]
 pub enum End {
     BadLength,
     BadSum,
@@ -53,7 +53,7 @@ pub enum End {
 }
 
 // What a byte or a tick was.
-#[derive(Drop)]
+#[derive(Clone, Copy)]
 pub enum Event {
     // The byte 01 or a Length: inside a frame, nothing to keep.
     Inside,
@@ -68,7 +68,7 @@ pub enum Event {
     Aborted,
 }
 
-#[derive(Drop)]
+#[derive(Clone, Copy)]
 pub struct Heard {
     pub hearing: Hearing,
     pub event: Event,

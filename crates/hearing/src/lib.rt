@@ -1,4 +1,6 @@
 // Hearing (document 01, section 4): a byte or a tick becomes an event. It knows nothing of sending; `tally` and `counting` use it alone.
+#![tactic(auto)]
+
 mod hearing;
 
 pub use hearing::{

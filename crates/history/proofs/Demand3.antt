@@ -37,11 +37,11 @@ use Rattle.history.specs.Bound.{Fits, spare, tail, extra, bound}
 use Rattle.history.specs.Demand3.{Kept, Demand3, EverySend, EverySession, send_bound, session_bound, HostDemand3, StandInDemand3}
 use Rattle.history.proofs.Mix.{end as finish, IsFrame, mix_answers}
 use Rattle.history.proofs.Hearing.{room, InTime}
-use Rattle.history.proofs.Job.{start-ok}
+use Rattle.history.proofs.Job.{start_ok}
 use Rattle.history.proofs.Links.{Outcome, lifted}
 use Rattle.history.proofs.Histories.{accepted_is, in_time}
-use Rattle.history.proofs.Watching.{onward-ok, watch-ok, copies_are, copies_number, kept, watched_over, watched_there}
-use Rattle.history.proofs.Once.{NotAbandoned, sofar-from, one_at_most, spent_is}
+use Rattle.history.proofs.Watching.{onward_ok, watch_ok, copies_are, copies_number, kept, watched_over, watched_there}
+use Rattle.history.proofs.Once.{NotAbandoned, sofar_from, one_at_most, spent_is}
 use Rattle.reception.specs.Sums.{run_of}
 
 pub frame_is : (kind command : ℕ) (ps : List ℕ) → IsFrame (frame_of kind command ps)
@@ -57,18 +57,18 @@ room_most (Body p) = omega arith
 
 module _ (R : Rules) (g : ℕ → ℕ) (fit : Fits R g) where
   -- an accepted send or session holds its frame, and has so many ticks at most
-  pub open-gave : (l : Link) (a : Asking) (f : List ℕ) → InTime l.core.hearing
+  pub open_gave : (l : Link) (a : Asking) (f : List ℕ) → InTime l.core.hearing
       → Outcome R g f a (bound R g a (length f)) 0 0 (verdict_of a (open_out l a f)) (open_out l a f)
   unfolding open_out
-  open-gave l a f i =
+  open_gave l a f i =
       let h = l.core.hearing in
       lifted R g fit f a l.body (over f l.frame) h (length f) l.core.choice (saying reception.Nothing reply.Silent 0) (run_of l.core.bad reset.Nothing)
       (start (is_hunting h) a 0) (bound R g a (length f)) 0 0 i (take-append_seam f _) finish
-      (start-ok R g fit (length f) (is_hunting h) h (bound R g a (length f)) 0 0 a i (omega arith) (omega (arith, room_most h)))
+      (start_ok R g fit (length f) (is_hunting h) h (bound R g a (length f)) 0 0 a i (omega arith) (omega (arith, room_most h)))
 
-  open-unsaid : (l : Link) (a : Asking) (f : List ℕ) → NotAbandoned (open_out l a f)
+  open_unsaid : (l : Link) (a : Asking) (f : List ℕ) → NotAbandoned (open_out l a f)
   unfolding open_out
-  open-unsaid l a f = by (is_hunting l.core.hearing)
+  open_unsaid l a f = by (is_hunting l.core.hearing)
     where
       by : (hunting : Bool) → abandons_in (start hunting a 0).sending (start hunting a 0).session ≡ 0
       by true = refl
@@ -78,11 +78,11 @@ module _ (R : Rules) (g : ℕ → ℕ) (fit : Fits R g) where
       → Demand3 R a f (bound R g a (length f)) (open_out l a f) k
   opened l a f i w k =
       let o = open_out l a f in
-      let c = open-gave l a f i in
+      let c = open_gave l a f i in
       let q : Kept a f (bound R g a (length f)) (watched R a o k) =
       kept R.choice.role f a (bound R g a (length f)) (watched R a o k) w
-      (onward-ok R g fit f a (verdict_of a o) (bound R g a (length f)) 0 0 o (watch R a o.link k) c (watch-ok R g fit f a k o.link)) in
-      let s = sofar-from R g fit f a k (bound R g a (length f)) 0 0 o (open-unsaid l a f) c in
+      (onward_ok R g fit f a (verdict_of a o) (bound R g a (length f)) 0 0 o (watch R a o.link k) c (watch_ok R g fit f a k o.link)) in
+      let s = sofar_from R g fit f a k (bound R g a (length f)) 0 0 o (open_unsaid l a f) c in
       record {
         once = omega (arith, s.said, one_at_most (watched R a o k));
         said = s.said;
@@ -97,8 +97,8 @@ module _ (R : Rules) (g : ℕ → ℕ) (fit : Fits R g) where
       }
 
   -- Take any history h, any send accepted after it, and any calls k after that.
-  pub send-demand3 : EverySend R (bound R g Plain)
-  send-demand3 h k line up kind command ps o e =
+  pub send_demand3 : EverySend R (bound R g Plain)
+  send_demand3 h k line up kind command ps o e =
       let f = frame_of kind command ps in
       let l = after R h in
       subst (λ (z : Out). Demand3 R Plain f (bound R g Plain (length f)) z k)
@@ -106,8 +106,8 @@ module _ (R : Rules) (g : ℕ → ℕ) (fit : Fits R g) where
       (opened l Plain f (in_time R h) (frame_is kind command ps) k)
 
   -- The same of a session; the bound is the same for every Command.
-  pub session-demand3 : EverySession R (bound R g (Asks 0))
-  session-demand3 h k line up command ps o e =
+  pub session_demand3 : EverySession R (bound R g (Asks 0))
+  session_demand3 h k line up command ps o e =
       let f = frame_of 0 command ps in
       let l = after R h in
       subst (λ (z : Out). Demand3 R (Asks command) f (bound R g (Asks command) (length f)) z k)
@@ -140,10 +140,10 @@ session_more Sooner size = omega arith
 session_more Spaced size = omega arith
 
 pub every_send : (c : Choice) → EverySend (rules_of c) (send_bound c.mode)
-every_send c = subst (EverySend (rules_of c)) (bound_is c Plain ∙ fun_ext (λ size. add-zero (send_bound c.mode size))) (send-demand3 (rules_of c) (spare c.mode) (rules_fit c))
+every_send c = subst (EverySend (rules_of c)) (bound_is c Plain ∙ fun_ext (λ size. add-zero (send_bound c.mode size))) (send_demand3 (rules_of c) (spare c.mode) (rules_fit c))
 
 pub every_session : (c : Choice) → EverySession (rules_of c) (session_bound c.mode)
-every_session c = subst (EverySession (rules_of c)) (bound_is c (Asks 0) ∙ fun_ext (session_more c.mode)) (session-demand3 (rules_of c) (spare c.mode) (rules_fit c))
+every_session c = subst (EverySession (rules_of c)) (bound_is c (Asks 0) ∙ fun_ext (session_more c.mode)) (session_demand3 (rules_of c) (spare c.mode) (rules_fit c))
 
 pub host_demand3 : (m : Mode) → HostDemand3 m
 host_demand3 m = (every_send (record { role = Host; mode = m }), every_session (record { role = Host; mode = m }))

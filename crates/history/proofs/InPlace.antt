@@ -7,9 +7,10 @@
 use mathlib.Core.Path.{◌≡◌, sym, ap, ◌∙◌}
 use mathlib.Core.List.{List}
 use Prim.Native.Nat.{ℕ}
+use Rattle.frame.specs.Bytes.{over}
 use Rattle.rules.specs.Rules.{Rules, rules_of}
 use Rattle.rules.specs.declared.Choice.{Choice}
-use Rattle.step.specs.declared.core.Core.{Core}
+use Rattle.step.specs.declared.numbers.Core.{Core}
 use Rattle.step.specs.declared.checks.Checked.{Checked}
 use Rattle.link.specs.Out.{Out, Taken}
 use Rattle.link.specs.Calls.{CallPromise, RunPromise}
@@ -18,11 +19,11 @@ use Rattle.link.specs.declared.calls.Answered.{Answered}
 use Rattle.link.specs.declared.calls.Ran.{Ran}
 use Rattle.link.specs.declared.in_place.AnsweredIn.{AnsweredIn}
 use Rattle.link.specs.declared.in_place.RanIn.{RanIn}
-use Rattle.link.proofs.Theorems.{put-together, run-put-together}
+use Rattle.link.proofs.Theorems.{put_together_lem, run_put_together}
 use Rattle.link.specs.declared.link.Link.{Link}
-use Rattle.history.specs.Perform.{What, Call, perform}
+use Rattle.history.specs.Perform.{What, Call, Done, perform}
 use Rattle.history.specs.History.{next, run, after}
-use Rattle.history.specs.Played.{by_call, by_run, Played, played, Promised, byte_call, bytes_call, tick_call, send_call, session_call, restart_call, Plays, no_calls, then, call_of, calls_of, told_of, AllTied}
+use Rattle.history.specs.Played.{by_call, by_run, Played, played, Promised, byte_call, bytes_call, tick_call, send_call, session_call, restart_call, Plays, no_calls, then, call_of, calls_of, line_of, up_of, told_of, AllTied}
 use Rattle.history.specs.PlayedIn.{Parts, fresh_parts, whole_of, PromisedIn, byte_in, bytes_in, tick_in, send_in, session_in, restart_in, PlaysIn, no_calls_in, then_in, SameAsked, SameTold}
 use Rattle.history.proofs.Promise.{promised, plays_tied, plays_after}
 
@@ -52,12 +53,12 @@ pub plays_in_place_after : (c : Choice) (n : Parts) (ps : List Played) → Plays
 plays_in_place_after c n ps h = plays_after c (whole_of n) ps (plays_in_place (fresh_parts c) n ps h)
 
 -- ---- the same call, both ways
--- Of promises: a call of the link and the call in place, under the same checks and with the same bytes lent, by `put-together` of link.
+-- Of promises: a call of the link and the call in place, under the same checks and with the same bytes lent, by `put_together_lem` of link.
 pub called_either_way : (w : What) {own : Checked} {o : Out} {l : Link} {line up a b c d body frame : List ℕ} {r : Answered} {q : AnsweredIn}
     → CallPromise own o l line up r a b → CallPromise own o l line up (put_together q body frame) c d
     → (r.link ≡ link_of q.core body frame) × SameTold (played w line up (by_call r.answer) a b) (played w line up (by_call q.answer) c d)
 called_either_way w x y =
-    let e = put-together x y in (
+    let e = put_together_lem x y in (
       ap (λ (z : Answered). z.link) e.0,
       record { told = ap (λ (z : Answered). by_call z.answer) e.0; line_left = e.1; up_left = e.2 },
     )
@@ -66,7 +67,7 @@ pub ran_either_way : (w : What) {t : Taken} {l : Link} {line up a b c d body fra
     → RunPromise t l line up r a b → RunPromise t l line up (ran_put_together q body frame) c d
     → (r.link ≡ link_of q.core body frame) × SameTold (played w line up (by_run r.answer) a b) (played w line up (by_run q.answer) c d)
 ran_either_way w x y =
-    let e = run-put-together x y in
+    let e = run_put_together x y in
     (ap (λ (z : Ran). z.link) e.0, record { told = ap (λ (z : Ran). by_run z.answer) e.0; line_left = e.1; up_left = e.2 })
 
 -- Of calls as they are played, whichever of the six: they are answered the same, leave the same bytes, and the link handed back is the
@@ -82,7 +83,8 @@ either_way R k n m p q x y s =
       a.link ∙ ap (next l) d ∙ sym b.link,
       record {
         told = a.tied.told ∙ ap (λ (w : What). told_of R l w (perform R l (call_of p))) s.what ∙ ap (told_of R l q.what) d ∙ sym b.tied.told;
-        line_left = a.tied.line_left ∙ simp (s.line, d) (sym b.tied.line_left);
-        up_left = a.tied.up_left ∙ simp (s.up, d) (sym b.tied.up_left);
+        line_left =
+            a.tied.line_left ∙ ap (λ (z : Done). over (line_of z) p.line) d ∙ ap (over (line_of (perform R l (call_of q)))) s.line ∙ sym b.tied.line_left;
+        up_left = a.tied.up_left ∙ ap (λ (z : Done). over (up_of z) p.up) d ∙ ap (over (up_of (perform R l (call_of q)))) s.up ∙ sym b.tied.up_left;
       },
     )

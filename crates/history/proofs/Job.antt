@@ -121,142 +121,142 @@ module _ (R : Rules) (g : ℕ → ℕ) (fit : Fits R g) (size : ℕ) where
   put_next : (n : ℕ) → n < 4 → suc n ≡ next_copy n
   put_next n k = sym (add-one n) ∙ sym (ap (λ (x : Bool). pick x (n + 1) 4) (lt-ltb n 4 k))
 
-  put-ok : (h : Hearing) (L n t : ℕ) (a : Asking) → n < 4 → ahead (R.wait size) g a n + t ≤ L → C h L n t a (put_out a n)
-  put-ok h L n t a k b =
+  put_ok : (h : Hearing) (L n t : ℕ) (a : Asking) → n < 4 → ahead (R.wait size) g a n + t ≤ L → C h L n t a (put_out a n)
+  put_ok h L n t a k b =
       subst
       (λ (m : ℕ). C h L n t a (record { job = Waiting a m 0; sending = sending.Copy m; session = session.Nothing; reset = reset.Nothing; copy = true }))
       (put_next n k)
       (goes h L n t a (record { job = Waiting a (suc n) 0; sending = sending.Copy (suc n); session = session.Nothing; reset = reset.Nothing; copy = true }) refl refl
       (record { good = waits (omega arith) k (fit.wait size); less = omega arith; count = omega arith }))
 
-  pub start-ok : (hunting : Bool) (h : Hearing) (L n t : ℕ) (a : Asking) → StillInsideIf hunting h → n < 4 → room h + ahead (R.wait size) g a n + t ≤ L
+  pub start_ok : (hunting : Bool) (h : Hearing) (L n t : ℕ) (a : Asking) → StillInsideIf hunting h → n < 4 → room h + ahead (R.wait size) g a n + t ≤ L
       → C h L n t a (start hunting a n)
-  start-ok true h L n t a i k b = put-ok h L n t a k (omega arith)
-  start-ok false h L n t a i k b = holds h L n t a (Due a n) sending.Due refl (due k i) b refl
+  start_ok true h L n t a i k b = put_ok h L n t a k (omega arith)
+  start_ok false h L n t a i k b = holds h L n t a (Due a n) sending.Due refl (due k i) b refl
 
-  fail-ok : (h : Hearing) (L n t : ℕ) (a : Asking) → 4 ≤ n → n ≤ 4 → t ≤ L → C h L n t a (fail a n)
-  fail-ok h L n t Plain k m b = record { soon = b; count = omega arith; few = m; four = λ _. omega arith; own = refl; idle = refl }
-  fail-ok h L n t (Asks c) k m b = record { soon = b; count = omega arith; few = m; four = λ _. omega arith; own = refl; idle = refl }
+  fail_ok : (h : Hearing) (L n t : ℕ) (a : Asking) → 4 ≤ n → n ≤ 4 → t ≤ L → C h L n t a (fail a n)
+  fail_ok h L n t Plain k m b = record { soon = b; count = omega arith; few = m; four = λ _. omega arith; own = refl; idle = refl }
+  fail_ok h L n t (Asks c) k m b = record { soon = b; count = omega arith; few = m; four = λ _. omega arith; own = refl; idle = refl }
 
-  off-ok : (b : ℕ) (hunting : Bool) (h : Hearing) (L n t : ℕ) (a : Asking) → StillInsideIf hunting h → room h ≤ 1500 → 0 < n → n < 4
+  off_ok : (b : ℕ) (hunting : Bool) (h : Hearing) (L n t : ℕ) (a : Asking) → StillInsideIf hunting h → room h ≤ 1500 → 0 < n → n < 4
       → b + 1500 + ahead (R.wait size) g a n + t ≤ L → C h L n t a (back_off b hunting a n)
-  off-ok b hunting h L n t a i r p q s =
-      pick_by (C h L n t a) (eqb b 0) _ _ (λ e. start-ok hunting h L n t a i q (omega arith))
+  off_ok b hunting h L n t a i r p q s =
+      pick_by (C h L n t a) (eqb b 0) _ _ (λ e. start_ok hunting h L n t a i q (omega arith))
       (λ e.
       let z : b ≡ 0 → ⊥ = eqb-false b 0 e in
       holds h L n t a (BackingOff a n b) (sending.BackingOff (record { 0 = b })) refl (backs p q (omega arith)) s refl)
 
-  lose-ok : (cause : Cause) (hunting : Bool) (h : Hearing) (L n t : ℕ) (a : Asking) → StillInsideIf hunting h → room h ≤ 1500 → 0 < n → n ≤ 4
+  lose_ok : (cause : Cause) (hunting : Bool) (h : Hearing) (L n t : ℕ) (a : Asking) → StillInsideIf hunting h → room h ≤ 1500 → 0 < n → n ≤ 4
       → R.back cause n + t ≤ g n + 1 → suc (tail (R.wait size) g n + extra a) ≤ L → t ≤ 1 → C h L n t a (lose R cause hunting a n)
-  lose-ok cause hunting h L n t a i r p q b s u =
+  lose_ok cause hunting h L n t a i r p q b s u =
       pick_by (C h L n t a) (ltb n 4) _ _
       (λ e.
       let v : n < 4 = ltb-true n 4 e in
-      off-ok (R.back cause n) hunting h L n t a i r p v (omega (arith, tail_law (R.wait size) g n p v)))
-      (λ e. fail-ok h L n t a (ltb-false n 4 e) q (omega arith))
+      off_ok (R.back cause n) hunting h L n t a i r p v (omega (arith, tail_law (R.wait size) g n p v)))
+      (λ e. fail_ok h L n t a (ltb-false n 4 e) q (omega arith))
 
-  ack-ok : (h : Hearing) (L n : ℕ) (a : Asking) → 0 < n → n ≤ 4 → suc (extra a) ≤ L → C h L n 0 a (acknowledge a n)
-  ack-ok h L n Plain p q s = record { soon = omega arith; count = omega arith; few = q; four = λ e. absurd (false≢true e); own = refl; idle = refl }
-  ack-ok h L n (Asks c) p q s = record { good = awaiting {e = 0} p q (omega arith); less = omega arith; count = omega arith }
+  ack_ok : (h : Hearing) (L n : ℕ) (a : Asking) → 0 < n → n ≤ 4 → suc (extra a) ≤ L → C h L n 0 a (acknowledge a n)
+  ack_ok h L n Plain p q s = record { soon = omega arith; count = omega arith; few = q; four = λ e. absurd (false≢true e); own = refl; idle = refl }
+  ack_ok h L n (Asks c) p q s = record { good = awaiting {e = 0} p q (omega arith); less = omega arith; count = omega arith }
 
   -- 06, 15 or 18 comes while hunting, so no copy is due
-  single-ok : (s : Single) (h h' : Hearing) {a : Asking} {job : Job} → Alones h h' → Good R size h a job
+  single_ok : (s : Single) (h h' : Hearing) {a : Asking} {job : Job} → Alones h h' → Good R size h a job
       → C h' (left R g size h job) (copies_of job) 0 a (on_single R s job)
-  single-ok s h h' q (due k w) = absurd (q.out w)
-  single-ok Ack h h' q (waits {a} {n} {e} p k w) = ack-ok h' _ n a p k (omega arith)
-  single-ok Nak h h' q (waits {a} {n} {e} p k w) =
-      lose-ok Told true h' _ n 0 a tt q.small p k (omega (arith, fit.early n)) (omega arith) (omega arith)
-  single-ok Can h h' q (waits {a} {n} {e} p k w) =
-      lose-ok Told true h' _ n 0 a tt q.small p k (omega (arith, fit.early n)) (omega arith) (omega arith)
-  single-ok s h h' q (backs {a} {n} {b} p k w) = holds h' _ n 0 a (BackingOff a n b) sending.Stray refl (backs p k w) (omega arith) refl
-  single-ok s h h' q (awaiting {c} {n} {e} p k w) = holds h' _ n 0 (Asks c) (Awaiting c n e) sending.Stray refl (awaiting p k w) (omega arith) refl
+  single_ok s h h' q (due k w) = absurd (q.out w)
+  single_ok Ack h h' q (waits {a} {n} {e} p k w) = ack_ok h' _ n a p k (omega arith)
+  single_ok Nak h h' q (waits {a} {n} {e} p k w) =
+      lose_ok Told true h' _ n 0 a tt q.small p k (omega (arith, fit.early n)) (omega arith) (omega arith)
+  single_ok Can h h' q (waits {a} {n} {e} p k w) =
+      lose_ok Told true h' _ n 0 a tt q.small p k (omega (arith, fit.early n)) (omega arith) (omega arith)
+  single_ok s h h' q (backs {a} {n} {b} p k w) = holds h' _ n 0 a (BackingOff a n b) sending.Stray refl (backs p k w) (omega arith) refl
+  single_ok s h h' q (awaiting {c} {n} {e} p k w) = holds h' _ n 0 (Asks c) (Awaiting c n e) sending.Stray refl (awaiting p k w) (omega arith) refl
 
-  release-ok : (h h' : Hearing) {a : Asking} {job : Job} → Good R size h a job → C h' (left R g size h job) (copies_of job) 0 a (release job)
-  release-ok h h' (due {a} {n} k w) = put-ok h' _ n 0 a k (omega arith)
-  release-ok h h' (waits {a} {n} {e} p k w) = holds h' _ n 0 a (Waiting a n e) sending.Nothing refl (waits p k w) (omega arith) refl
-  release-ok h h' (backs {a} {n} {b} p k w) = holds h' _ n 0 a (BackingOff a n b) sending.Nothing refl (backs p k w) (omega arith) refl
-  release-ok h h' (awaiting {c} {n} {e} p k w) = holds h' _ n 0 (Asks c) (Awaiting c n e) sending.Nothing refl (awaiting p k w) (omega arith) refl
+  release_ok : (h h' : Hearing) {a : Asking} {job : Job} → Good R size h a job → C h' (left R g size h job) (copies_of job) 0 a (release job)
+  release_ok h h' (due {a} {n} k w) = put_ok h' _ n 0 a k (omega arith)
+  release_ok h h' (waits {a} {n} {e} p k w) = holds h' _ n 0 a (Waiting a n e) sending.Nothing refl (waits p k w) (omega arith) refl
+  release_ok h h' (backs {a} {n} {b} p k w) = holds h' _ n 0 a (BackingOff a n b) sending.Nothing refl (backs p k w) (omega arith) refl
+  release_ok h h' (awaiting {c} {n} {e} p k w) = holds h' _ n 0 (Asks c) (Awaiting c n e) sending.Nothing refl (awaiting p k w) (omega arith) refl
 
-  wait-ok : (hunting : Bool) (h h' : Hearing) (a : Asking) (n e : ℕ) → StillInsideIf hunting h' → room h' ≤ 1500 → 0 < n → n ≤ 4 → e < R.wait size
+  wait_ok : (hunting : Bool) (h h' : Hearing) (a : Asking) (n e : ℕ) → StillInsideIf hunting h' → room h' ≤ 1500 → 0 < n → n ≤ 4 → e < R.wait size
       → C h' (left R g size h (Waiting a n e)) n 1 a (on_tick R size hunting (Waiting a n e))
-  wait-ok hunting h h' a n e i r p k w =
+  wait_ok hunting h h' a n e i r p k w =
       pick_by (C h' (left R g size h (Waiting a n e)) n 1 a) (ltb (e + 1) (R.wait size)) _ _
       (λ x.
       let v : e + 1 < R.wait size = ltb-true _ _ x in
       holds h' _ n 1 a (Waiting a n (e + 1)) sending.Nothing refl (waits p k v) (omega arith) refl)
-      (λ x. lose-ok Time hunting h' _ n 1 a i r p k (omega (arith, fit.late n)) (omega arith) (omega arith))
+      (λ x. lose_ok Time hunting h' _ n 1 a i r p k (omega (arith, fit.late n)) (omega arith) (omega arith))
 
-  back-ok : (hunting : Bool) (h h' : Hearing) (a : Asking) (n b : ℕ) → StillInsideIf hunting h' → room h' ≤ 1500 → 0 < n → n < 4 → 0 < b
+  back_ok : (hunting : Bool) (h h' : Hearing) (a : Asking) (n b : ℕ) → StillInsideIf hunting h' → room h' ≤ 1500 → 0 < n → n < 4 → 0 < b
       → C h' (left R g size h (BackingOff a n b)) n 1 a (on_tick R size hunting (BackingOff a n b))
-  back-ok hunting h h' a n b i r p k w =
+  back_ok hunting h h' a n b i r p k w =
       pick_by (C h' (left R g size h (BackingOff a n b)) n 1 a) (ltb 1 b) _ _
       (λ x.
       let v : 1 < b = ltb-true _ _ x in
       holds h' _ n 1 a (BackingOff a n (b - 1)) sending.Nothing refl (backs p k (omega arith)) (omega arith) refl)
-      (λ x. start-ok hunting h' _ n 1 a i k (omega arith))
+      (λ x. start_ok hunting h' _ n 1 a i k (omega arith))
 
-  await-ok : (h h' : Hearing) (c n e : ℕ) → 0 < n → n ≤ 4 → e < 5000 → C h' (left R g size h (Awaiting c n e)) n 1 (Asks c) (awaited c n (e + 1))
-  await-ok h h' c n e p k w =
+  await_ok : (h h' : Hearing) (c n e : ℕ) → 0 < n → n ≤ 4 → e < 5000 → C h' (left R g size h (Awaiting c n e)) n 1 (Asks c) (awaited c n (e + 1))
+  await_ok h h' c n e p k w =
       pick_by (C h' (left R g size h (Awaiting c n e)) n 1 (Asks c)) (ltb (e + 1) 5000) _ _
       (λ x.
       let v : e + 1 < 5000 = ltb-true _ _ x in
       holds h' _ n 1 (Asks c) (Awaiting c n (e + 1)) sending.Nothing refl (awaiting p k v) (omega arith) refl)
       (λ x. record { soon = omega arith; count = omega arith; few = k; four = λ y. absurd (false≢true y); own = refl; idle = refl })
 
-  tick-ok : (hunting : Bool) (h h' : Hearing) {a : Asking} {job : Job} → TickPasses hunting h h' → Good R size h a job
+  tick_ok : (hunting : Bool) (h h' : Hearing) {a : Asking} {job : Job} → TickPasses hunting h h' → Good R size h a job
       → C h' (left R g size h job) (copies_of job) 1 a (on_tick R size hunting job)
-  tick-ok hunting h h' q (due {a} {n} k w) = holds h' _ n 1 a (Due a n) sending.Nothing refl (due k (q.on w)) (omega (arith, q.down w)) refl
-  tick-ok hunting h h' q (waits {a} {n} {e} p k w) = wait-ok hunting h h' a n e q.within q.small p k w
-  tick-ok hunting h h' q (backs {a} {n} {b} p k w) = back-ok hunting h h' a n b q.within q.small p k w
-  tick-ok hunting h h' q (awaiting {c} {n} {e} p k w) = await-ok h h' c n e p k w
+  tick_ok hunting h h' q (due {a} {n} k w) = holds h' _ n 1 a (Due a n) sending.Nothing refl (due k (q.on w)) (omega (arith, q.down w)) refl
+  tick_ok hunting h h' q (waits {a} {n} {e} p k w) = wait_ok hunting h h' a n e q.within q.small p k w
+  tick_ok hunting h h' q (backs {a} {n} {b} p k w) = back_ok hunting h h' a n b q.within q.small p k w
+  tick_ok hunting h h' q (awaiting {c} {n} {e} p k w) = await_ok h h' c n e p k w
 
-  abort-ok : (h h' : Hearing) {a : Asking} {job : Job} → Aborts h h' → Good R size h a job
+  abort_ok : (h h' : Hearing) {a : Asking} {job : Job} → Aborts h h' → Good R size h a job
       → C h' (left R g size h job) (copies_of job) 1 a (on_abort R size job)
-  abort-ok h h' q (due {a} {n} k w) = put-ok h' _ n 1 a k (omega (arith, q.had w))
-  abort-ok h h' q (waits {a} {n} {e} p k w) = wait-ok true h h' a n e tt q.small p k w
-  abort-ok h h' q (backs {a} {n} {b} p k w) = back-ok true h h' a n b tt q.small p k w
-  abort-ok h h' q (awaiting {c} {n} {e} p k w) = await-ok h h' c n e p k w
+  abort_ok h h' q (due {a} {n} k w) = put_ok h' _ n 1 a k (omega (arith, q.had w))
+  abort_ok h h' q (waits {a} {n} {e} p k w) = wait_ok true h h' a n e tt q.small p k w
+  abort_ok h h' q (backs {a} {n} {b} p k w) = back_ok true h h' a n b tt q.small p k w
+  abort_ok h h' q (awaiting {c} {n} {e} p k w) = await_ok h h' c n e p k w
 
-  keep-ok : (h h' : Hearing) {a : Asking} {job : Job} → Stays h h' → Good R size h a job → C h' (left R g size h job) (copies_of job) 0 a (still job)
-  keep-ok h h' q (due {a} {n} k w) = holds h' _ n 0 a (Due a n) sending.Nothing refl (due k (q.on w)) (omega (arith, q.down w)) refl
-  keep-ok h h' q (waits {a} {n} {e} p k w) = holds h' _ n 0 a (Waiting a n e) sending.Nothing refl (waits p k w) (omega arith) refl
-  keep-ok h h' q (backs {a} {n} {b} p k w) = holds h' _ n 0 a (BackingOff a n b) sending.Nothing refl (backs p k w) (omega arith) refl
-  keep-ok h h' q (awaiting {c} {n} {e} p k w) = holds h' _ n 0 (Asks c) (Awaiting c n e) sending.Nothing refl (awaiting p k w) (omega arith) refl
+  keep_ok : (h h' : Hearing) {a : Asking} {job : Job} → Stays h h' → Good R size h a job → C h' (left R g size h job) (copies_of job) 0 a (still job)
+  keep_ok h h' q (due {a} {n} k w) = holds h' _ n 0 a (Due a n) sending.Nothing refl (due k (q.on w)) (omega (arith, q.down w)) refl
+  keep_ok h h' q (waits {a} {n} {e} p k w) = holds h' _ n 0 a (Waiting a n e) sending.Nothing refl (waits p k w) (omega arith) refl
+  keep_ok h h' q (backs {a} {n} {b} p k w) = holds h' _ n 0 a (BackingOff a n b) sending.Nothing refl (backs p k w) (omega arith) refl
+  keep_ok h h' q (awaiting {c} {n} {e} p k w) = holds h' _ n 0 (Asks c) (Awaiting c n e) sending.Nothing refl (awaiting p k w) (omega arith) refl
 
   -- a response ends the session that awaits it
-  response-ok : (command : ℕ) (h h' : Hearing) {a : Asking} {job : Job} → Good R size h a job
+  response_ok : (command : ℕ) (h h' : Hearing) {a : Asking} {job : Job} → Good R size h a job
       → C h' (left R g size h job) (copies_of job) 0 a (pick (awaits command job) (respond job) (release job))
-  response-ok command h h' (due {a} k w) = release-ok h h' {a = a} (due k w)
-  response-ok command h h' (waits {a} p k w) = release-ok h h' {a = a} (waits p k w)
-  response-ok command h h' (backs {a} p k w) = release-ok h h' {a = a} (backs p k w)
-  response-ok command h h' (awaiting {c} {n} {e} p k w) =
+  response_ok command h h' (due {a} k w) = release_ok h h' {a = a} (due k w)
+  response_ok command h h' (waits {a} p k w) = release_ok h h' {a = a} (waits p k w)
+  response_ok command h h' (backs {a} p k w) = release_ok h h' {a = a} (backs p k w)
+  response_ok command h h' (awaiting {c} {n} {e} p k w) =
       pick_by (C h' (5000 - e) n 0 (Asks c)) (eqb command c) _ _
       (λ _. record { soon = omega arith; count = omega arith; few = k; four = λ y. absurd (false≢true y); own = refl; idle = refl })
-      (λ _. release-ok h h' (awaiting p k w))
+      (λ _. release_ok h h' (awaiting p k w))
 
-  end-ok : (e : End) (h h' : Hearing) {a : Asking} {job : Job} → Good R size h a job → C h' (left R g size h job) (copies_of job) 0 a (on_end e job)
-  end-ok end.BadLength h h' d = release-ok h h' d
-  end-ok end.BadSum h h' d = release-ok h h' d
-  end-ok end.Reserved h h' d = release-ok h h' d
-  end-ok (end.Request s) h h' d = release-ok h h' d
-  end-ok (end.Response s c) h h' d = response-ok c h h' d
+  end_ok : (e : End) (h h' : Hearing) {a : Asking} {job : Job} → Good R size h a job → C h' (left R g size h job) (copies_of job) 0 a (on_end e job)
+  end_ok end.BadLength h h' d = release_ok h h' d
+  end_ok end.BadSum h h' d = release_ok h h' d
+  end_ok end.Reserved h h' d = release_ok h h' d
+  end_ok (end.Request s) h h' d = release_ok h h' d
+  end_ok (end.Response s c) h h' d = response_ok c h h' d
 
   none_within : {h h' : Hearing} → (StillInside h → ⊥) → Stays h h'
   none_within q = record { on = λ i. absurd (q i); down = λ i. absurd (q i) }
 
-  pub act-ok : (e : Event) (h h' : Hearing) {a : Asking} {job : Job} → Tells e h h' → Good R size h a job
+  pub act_ok : (e : Event) (h h' : Hearing) {a : Asking} {job : Job} → Tells e h h' → Good R size h a job
       → C h' (left R g size h job) (copies_of job) (ticks_at e) a (on_event R size e job)
-  act-ok Inside h h' q d = keep-ok h h' q d
-  act-ok (Kept at) h h' q d = keep-ok h h' q d
-  act-ok Skipped h h' q d = keep-ok h h' (none_within q) d
-  act-ok (Alone s) h h' q d = single-ok s h h' q d
-  act-ok (Ended e) h h' q d = end-ok e h h' d
-  act-ok TickHunting h h' q d = tick-ok true h h' q d
-  act-ok TickInside h h' q d = tick-ok false h h' q d
-  act-ok Aborted h h' q d = abort-ok h h' q d
+  act_ok Inside h h' q d = keep_ok h h' q d
+  act_ok (Kept at) h h' q d = keep_ok h h' q d
+  act_ok Skipped h h' q d = keep_ok h h' (none_within q) d
+  act_ok (Alone s) h h' q d = single_ok s h h' q d
+  act_ok (Ended e) h h' q d = end_ok e h h' d
+  act_ok TickHunting h h' q d = tick_ok true h h' q d
+  act_ok TickInside h h' q d = tick_ok false h h' q d
+  act_ok Aborted h h' q d = abort_ok h h' q d
 
-  pub left-pos : (h : Hearing) {a : Asking} {job : Job} → Good R size h a job → 0 < left R g size h job
-  left-pos h (due k w) = omega (arith, fit.wait size)
-  left-pos h (waits p k w) = omega arith
-  left-pos h (backs p k w) = omega arith
-  left-pos h (awaiting p k w) = omega arith
+  pub left_pos : (h : Hearing) {a : Asking} {job : Job} → Good R size h a job → 0 < left R g size h job
+  left_pos h (due k w) = omega (arith, fit.wait size)
+  left_pos h (waits p k w) = omega arith
+  left_pos h (backs p k w) = omega arith
+  left_pos h (awaiting p k w) = omega arith

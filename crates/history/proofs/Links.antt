@@ -36,7 +36,7 @@ use Rattle.history.specs.Bound.{Fits}
 use Rattle.history.proofs.Mix.{Mix, end as finish, one, copy, mix_append}
 use Rattle.history.proofs.Hearing.{InTime, Steps, ticks_at, byte_steps, tick_steps}
 use Rattle.refusals.proofs.Picks.{neither, pick_by}
-use Rattle.history.proofs.Job.{Good, left, ones, Claim, no_verdict, act-ok}
+use Rattle.history.proofs.Job.{Good, left, ones, Claim, no_verdict, act_ok}
 use Rattle.reception.specs.Said.{reply_bytes, cancels, said_end, said_on}
 use Rattle.hearing.specs.declared.hearing.End.{End}
 use Rattle.hearing.specs.declared.hearing.End.TheVariants as end
@@ -168,23 +168,23 @@ module _ (R : Rules) (g : ℕ → ℕ) (fit : Fits R g) (f : List ℕ) (a : Aski
   abbrev pub Gave : ℕ → ℕ → ℕ → Out → Type 0
   Gave L n t o = Outcome R g f a L n t (verdict_of a o) o
 
-  on-heard : (t : ℕ) (l : Link) (body : List ℕ) (r : Heard) → Steps t l.core.hearing r → Sends R f a l
+  on_heard : (t : ℕ) (l : Link) (body : List ℕ) (r : Heard) → Steps t l.core.hearing r → Sends R f a l
       → Gave (left_on R g l) (copies_of l.core.job) t (heard_out R l.core body l.frame r)
-  on-heard t l body r k d =
+  on_heard t l body r k d =
       let x = on_event R l.core.size r.event l.core.job in
       lifted body l.frame r.hearing l.core.size l.core.choice (said_on R.choice.role r.event (awaited_by l.core.job)) (sums_on r.event l.core.bad) x _ _ t k.ok d.held
       (said_mix R.choice.role f r.event (awaited_by l.core.job))
       (subst
       (λ (u : ℕ). Claim R g l.core.size r.hearing (left_on R g l) (copies_of l.core.job) u (verdict_in a x.sending x.session) a x.job x.copy)
-      k.time (act-ok R g fit l.core.size r.event l.core.hearing r.hearing k.tells d.good))
+      k.time (act_ok R g fit l.core.size r.event l.core.hearing r.hearing k.tells d.good))
 
-  pub byte-gave : (l : Link) (b : ℕ) → Sends R f a l → Gave (left_on R g l) (copies_of l.core.job) 0 (byte_out R l b)
+  pub byte_gave : (l : Link) (b : ℕ) → Sends R f a l → Gave (left_on R g l) (copies_of l.core.job) 0 (byte_out R l b)
   unfolding byte_out
-  byte-gave l b d = on-heard 0 l _ (hear_byte b l.core.hearing) (byte_steps b l.core.hearing d.time) d
+  byte_gave l b d = on_heard 0 l _ (hear_byte b l.core.hearing) (byte_steps b l.core.hearing d.time) d
 
-  pub tick-gave : (l : Link) → Sends R f a l → Gave (left_on R g l) (copies_of l.core.job) 1 (tick_out R l)
+  pub tick_gave : (l : Link) → Sends R f a l → Gave (left_on R g l) (copies_of l.core.job) 1 (tick_out R l)
   unfolding tick_out
-  tick-gave l d = on-heard 1 l l.body (hear_tick l.core.hearing) (tick_steps l.core.hearing d.time) d
+  tick_gave l d = on_heard 1 l l.body (hear_tick l.core.hearing) (tick_steps l.core.hearing d.time) d
 
   -- ---- a run of bytes: quiet bytes first, then its last
   pub record Quiet (L n : ℕ) (o : Out) : Type 0 where
@@ -194,8 +194,8 @@ module _ (R : Rules) (g : ℕ → ℕ) (fit : Fits R g) (f : List ℕ) (a : Aski
     pub line : o.line ≡ []
     pub verdict : verdict_of a o ≡ none
 
-  quiet-gave : (L n : ℕ) (o : Out) → Quiet L n o → Gave L n 0 o
-  quiet-gave L n o q =
+  quiet_gave : (L n : ℕ) (o : Out) → Quiet L n o → Gave L n 0 o
+  quiet_gave L n o q =
       subst (λ (s : Says). Outcome R g f a L n 0 s o) (sym q.verdict)
       (record { sends = q.sends; less = omega (arith, q.less); more = 0; mix = subst (λ (z : List ℕ). Mix R.choice.role f 0 z) (sym q.line) finish; count = omega (arith, q.copies) })
 
@@ -205,18 +205,18 @@ module _ (R : Rules) (g : ℕ → ℕ) (fit : Fits R g) (f : List ℕ) (a : Aski
       (record { soon = omega (arith, c.0.soon); own = c.0.own; more = c.0.more; mix = c.0.mix; count = omega (arith, c.0.count); few = c.0.few; four = c.0.four }, c.1)
   weaker (both v w) L L' n n' o h e c = absurd c
 
-  still-none : (j : Job) → verdict_in a (still j).sending (still j).session ≡ none
-  still-none j = no_verdict a sending.Nothing session.Nothing refl refl
+  still_none : (j : Job) → verdict_in a (still j).sending (still j).session ≡ none
+  still_none j = no_verdict a sending.Nothing session.Nothing refl refl
 
-  quiet-byte : (L n : ℕ) (l : Link) (b : ℕ) → Sends R f a l → left_on R g l ≤ L → copies_of l.core.job ≡ n → news (byte_out R l b) ≡ false → Quiet L n (byte_out R l b)
+  quiet_byte : (L n : ℕ) (l : Link) (b : ℕ) → Sends R f a l → left_on R g l ≤ L → copies_of l.core.job ≡ n → news (byte_out R l b) ≡ false → Quiet L n (byte_out R l b)
   unfolding byte_out
-  quiet-byte L n l b d h e w =
+  quiet_byte L n l b d h e w =
       let r = hear_byte b l.core.hearing in
       let k = byte_steps b l.core.hearing d.time in
       let x = on_event R l.core.size r.event l.core.job in
       let m = calm_byte R l b r k.time w in
-      let v : verdict_in a x.sending x.session ≡ none = ap (λ (y : Act). verdict_in a y.sending y.session) m.job ∙ still-none l.core.job in
-      let c : Goes R g f a (left_on R g l) (copies_of l.core.job) 0 (byte_out R l b) = subst (λ (s : Says). Outcome R g f a (left_on R g l) (copies_of l.core.job) 0 s (byte_out R l b)) v (byte-gave l b d) in
+      let v : verdict_in a x.sending x.session ≡ none = ap (λ (y : Act). verdict_in a y.sending y.session) m.job ∙ still_none l.core.job in
+      let c : Goes R g f a (left_on R g l) (copies_of l.core.job) 0 (byte_out R l b) = subst (λ (s : Says). Outcome R g f a (left_on R g l) (copies_of l.core.job) 0 s (byte_out R l b)) v (byte_gave l b d) in
       record {
         sends = c.sends;
         less = omega (arith, c.less);
@@ -225,14 +225,14 @@ module _ (R : Rules) (g : ℕ → ℕ) (fit : Fits R g) (f : List ℕ) (a : Aski
         verdict = v;
       }
 
-  from-gave : (bs : List ℕ) (k L n : ℕ) (o : Out) → Quiet L n o → Gave L n 0 (run_from R o k bs).out
+  from_gave : (bs : List ℕ) (k L n : ℕ) (o : Out) → Quiet L n o → Gave L n 0 (run_from R o k bs).out
   unfolding run_from
-  from-gave [] k L n o q = quiet-gave L n o q
-  from-gave (b ∷ bs) k L n o q =
+  from_gave [] k L n o q = quiet_gave L n o q
+  from_gave (b ∷ bs) k L n o q =
       pick_by (λ (z : Taken). Gave L n 0 z.out) (news (byte_out R o.link b)) _ _
-      (λ _. weaker (verdict_of a (byte_out R o.link b)) _ L _ n (byte_out R o.link b) q.less q.copies (byte-gave o.link b q.sends))
-      (λ w. from-gave bs (k + 1) L n (byte_out R o.link b) (quiet-byte L n o.link b q.sends q.less q.copies w))
+      (λ _. weaker (verdict_of a (byte_out R o.link b)) _ L _ n (byte_out R o.link b) q.less q.copies (byte_gave o.link b q.sends))
+      (λ w. from_gave bs (k + 1) L n (byte_out R o.link b) (quiet_byte L n o.link b q.sends q.less q.copies w))
 
-  pub run-gave : (l : Link) (bs : List ℕ) → Sends R f a l → Gave (left_on R g l) (copies_of l.core.job) 0 (run_out R l bs).out
-  run-gave l bs d =
-      from-gave bs 0 _ _ (quiet l) (record { sends = d; less = omega arith; copies = refl; line = refl; verdict = still-none l.core.job })
+  pub run_gave : (l : Link) (bs : List ℕ) → Sends R f a l → Gave (left_on R g l) (copies_of l.core.job) 0 (run_out R l bs).out
+  run_gave l bs d =
+      from_gave bs 0 _ _ (quiet l) (record { sends = d; less = omega arith; copies = refl; line = refl; verdict = still_none l.core.job })

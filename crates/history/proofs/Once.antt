@@ -46,7 +46,7 @@ use Rattle.history.specs.Demand3.{Spent}
 use Rattle.history.proofs.Mix.{Mix, end as finish, one, mix_append, IsFrame, mix_frames}
 use Rattle.refusals.proofs.Picks.{pick_ok}
 use Rattle.history.proofs.Job.{Good, due, waits, backs, awaiting, good_few, no_verdict}
-use Rattle.history.proofs.Links.{Sends, Outcome, said_mix, byte-gave, tick-gave, run-gave}
+use Rattle.history.proofs.Links.{Sends, Outcome, said_mix, byte_gave, tick_gave, run_gave}
 use Rattle.history.proofs.Histories.{send_free, session_free}
 use Rattle.history.proofs.Watching.{none_free}
 
@@ -222,49 +222,49 @@ done_by_lem P a w l Passes o k m p q = q refl
 done_by_lem P a w l (Refuses r) o k m p q = p
 
 module _ (R : Rules) (f : List ℕ) (a : Asking) where
-  no_copy : (e : Event) (w : Awaited) (x : Bool) (l : List ℕ) → x ≡ false → Mix R.choice.role f 0 (reply_bytes (said_on R.choice.role e w).reply ++ pick x l [])
-  no_copy e w x l q =
+  no_copy_lem : (e : Event) (w : Awaited) (x : Bool) (l : List ℕ) → x ≡ false → Mix R.choice.role f 0 (reply_bytes (said_on R.choice.role e w).reply ++ pick x l [])
+  no_copy_lem e w x l q =
       subst (λ (y : Bool). Mix R.choice.role f 0 (reply_bytes (said_on R.choice.role e w).reply ++ pick y l [])) (sym q)
       (mix_append (said_mix R.choice.role f e w) finish)
 
-  pub byte-rests : (l : Link) (b : ℕ) → l.core.job ≡ Idle → Rests R.choice.role f a (byte_out R l b)
+  pub byte_rests : (l : Link) (b : ℕ) → l.core.job ≡ Idle → Rests R.choice.role f a (byte_out R l b)
   unfolding byte_out
-  byte-rests l b q =
+  byte_rests l b q =
       let e = (hear_byte b l.core.hearing).event in
       let k = acts_rests R l.core.size e l.core.job q in
       record {
         verdict = no_verdict a _ _ k.send k.ask;
         unsaid = byte_unsaid R l b;
-        line = no_copy e (awaited_by l.core.job) _ (take l.core.size l.frame) k.copy;
+        line = no_copy_lem e (awaited_by l.core.job) _ (take l.core.size l.frame) k.copy;
         idle = k.idle;
       }
 
-  pub tick-rests : (l : Link) → l.core.job ≡ Idle → Rests R.choice.role f a (tick_out R l)
+  pub tick_rests : (l : Link) → l.core.job ≡ Idle → Rests R.choice.role f a (tick_out R l)
   unfolding tick_out
-  tick-rests l q =
+  tick_rests l q =
       let e = (hear_tick l.core.hearing).event in
       let k = acts_rests R l.core.size e l.core.job q in
       record {
         verdict = no_verdict a _ _ k.send k.ask;
         unsaid = tick_unsaid R l;
-        line = no_copy e (awaited_by l.core.job) _ (take l.core.size l.frame) k.copy;
+        line = no_copy_lem e (awaited_by l.core.job) _ (take l.core.size l.frame) k.copy;
         idle = k.idle;
       }
 
-  from-rests : (bs : List ℕ) (k : ℕ) (o : Out) → Rests R.choice.role f a o → Rests R.choice.role f a (run_from R o k bs).out
+  from_rests : (bs : List ℕ) (k : ℕ) (o : Out) → Rests R.choice.role f a o → Rests R.choice.role f a (run_from R o k bs).out
   unfolding run_from
-  from-rests [] k o q = q
-  from-rests (b ∷ bs) k o q =
-      let r = byte-rests o.link b q.idle in
-      pick_ok (λ (z : Taken). Rests R.choice.role f a z.out) (news (byte_out R o.link b)) _ _ r (from-rests bs (k + 1) (byte_out R o.link b) r)
+  from_rests [] k o q = q
+  from_rests (b ∷ bs) k o q =
+      let r = byte_rests o.link b q.idle in
+      pick_ok (λ (z : Taken). Rests R.choice.role f a z.out) (news (byte_out R o.link b)) _ _ r (from_rests bs (k + 1) (byte_out R o.link b) r)
 
-  run-rests : (l : Link) (bs : List ℕ) → l.core.job ≡ Idle → Rests R.choice.role f a (run_out R l bs).out
-  run-rests l bs q =
-      from-rests bs 0 (quiet l) (record { verdict = no_verdict a sending.Nothing session.Nothing refl refl; unsaid = refl; line = finish; idle = q })
+  run_rests : (l : Link) (bs : List ℕ) → l.core.job ≡ Idle → Rests R.choice.role f a (run_out R l bs).out
+  run_rests l bs q =
+      from_rests bs 0 (quiet l) (record { verdict = no_verdict a sending.Nothing session.Nothing refl refl; unsaid = refl; line = finish; idle = q })
 
-  restart-rests : (l : Link) → l.core.job ≡ Idle → Rests R.choice.role f a (restart_out l)
+  restart_rests : (l : Link) → l.core.job ≡ Idle → Rests R.choice.role f a (restart_out l)
   unfolding restart_out
-  restart-rests l q =
+  restart_rests l q =
       record {
         verdict = restart_none a l;
         unsaid = ap (λ (j : Job). abandons_in (on_restart j).sending (on_restart j).session) q;
@@ -272,32 +272,32 @@ module _ (R : Rules) (f : List ℕ) (a : Asking) where
         idle = restart_idle l;
       }
 
-  rests-on : (o : Out) (os : List Out) → Rests R.choice.role f a o → Resting R.choice.role f a os → Resting R.choice.role f a (o ∷ os)
-  rests-on o os r s =
+  rests_on : (o : Out) (os : List Out) → Rests R.choice.role f a o → Resting R.choice.role f a os → Resting R.choice.role f a (o ∷ os)
+  rests_on o os r s =
       record {
         line = mix_append r.line s.line;
         verdicts = ap₂ (λ (x : Says) (n : ℕ). verdict_count x + n) r.verdict s.verdicts;
         abandons = ap₂ (λ (m n : ℕ). m + n) r.unsaid s.abandons;
       }
 
-  none-rests : Resting R.choice.role f a []
-  none-rests = record { line = finish; verdicts = refl; abandons = refl }
+  none_rests : Resting R.choice.role f a []
+  none_rests = record { line = finish; verdicts = refl; abandons = refl }
 
-  rests-taken : (w : What) (l : Link) (m : Link → List Out) → l.core.job ≡ Idle → ((z : Link) → z.core.job ≡ Idle → Resting R.choice.role f a (m z))
+  rests_taken : (w : What) (l : Link) (m : Link → List Out) → l.core.job ≡ Idle → ((z : Link) → z.core.job ≡ Idle → Resting R.choice.role f a (m z))
       → Resting R.choice.role f a (outs_taken w (out_of R l w) (m (out_of R l w).link))
-  rests-taken (byte b) l m q i = let r = byte-rests l b q in rests-on _ _ r (i _ r.idle)
-  rests-taken (bytes bs) l m q i = let r = run-rests l bs q in rests-on _ _ r (i _ r.idle)
-  rests-taken tick l m q i = let r = tick-rests l q in rests-on _ _ r (i _ r.idle)
-  rests-taken (send kind command ps) l m q i = none-rests
-  rests-taken (session_call command ps) l m q i = none-rests
-  rests-taken restart l m q i = let r = restart-rests l q in rests-on _ _ r (i _ r.idle)
+  rests_taken (byte b) l m q i = let r = byte_rests l b q in rests_on _ _ r (i _ r.idle)
+  rests_taken (bytes bs) l m q i = let r = run_rests l bs q in rests_on _ _ r (i _ r.idle)
+  rests_taken tick l m q i = let r = tick_rests l q in rests_on _ _ r (i _ r.idle)
+  rests_taken (send kind command ps) l m q i = none_rests
+  rests_taken (session_call command ps) l m q i = none_rests
+  rests_taken restart l m q i = let r = restart_rests l q in rests_on _ _ r (i _ r.idle)
 
-  idle-rests : (h : List Call) (l : Link) → l.core.job ≡ Idle → Resting R.choice.role f a (outs R l h)
-  idle-rests [] l q = none-rests
-  idle-rests (c ∷ h) l q =
+  idle_rests : (h : List Call) (l : Link) → l.core.job ≡ Idle → Resting R.choice.role f a (outs R l h)
+  idle_rests [] l q = none_rests
+  idle_rests (c ∷ h) l q =
       done_by_lem (λ _ os. Resting R.choice.role f a os) a c.what l (room_checks c.line c.up (checks_of l c.what)) (out_of R l c.what) (λ z. watch R a z h) (λ z. outs R z h)
-      (idle-rests h l q)
-      (λ _. rests-taken c.what l (λ z. outs R z h) q (idle-rests h))
+      (idle_rests h l q)
+      (λ _. rests_taken c.what l (λ z. outs R z h) q (idle_rests h))
 
 -- ---- an open send or session, beside its watch: n copies had gone out before
 abbrev SpentBy : ℕ → Watch → Type 0
@@ -329,10 +329,10 @@ add_abandons t l restarted_first = refl
 add_abandons t l (settled v u k) = refl
 
 module _ (R : Rules) (g : ℕ → ℕ) (fit : Fits R g) (f : List ℕ) (a : Asking) where
-  onward-sofar : (s : Says) (L n t : ℕ) (o : Out) (w : Watch) (os : List Out) → verdict_of a o ≡ s → NotAbandoned o → Outcome R g f a L n t s o
+  onward_sofar : (s : Says) (L n t : ℕ) (o : Out) (w : Watch) (os : List Out) → verdict_of a o ≡ s → NotAbandoned o → Outcome R g f a L n t s o
       → (Sends R f a o.link → Sofar R.choice.role f a (copies_of o.link.core.job) w os) → (o.link.core.job ≡ Idle → Resting R.choice.role f a os)
       → Sofar R.choice.role f a n (onward s t o.line w) (o ∷ os)
-  onward-sofar none L n t o w os v b c p q =
+  onward_sofar none L n t o w os v b c p q =
       let r = p c.sends in
       record {
         more = c.more + r.more;
@@ -342,7 +342,7 @@ module _ (R : Rules) (g : ℕ → ℕ) (fit : Fits R g) (f : List ℕ) (a : Aski
         said = ap (λ (x : Says). verdict_count x + verdicts_of a os) v ∙ (let e : 0 + verdicts_of a os ≡ verdicts_of a os = omega arith in e) ∙ r.said ∙ add_verdicts t o.line w;
         abandoned = ap (λ (m : ℕ). m + abandons_of os) b ∙ (let e : 0 + abandons_of os ≡ abandons_of os = omega arith in e) ∙ r.abandoned ∙ add_abandons t o.line w;
       }
-  onward-sofar (says v) L n t o w os e b c p q =
+  onward_sofar (says v) L n t o w os e b c p q =
       let r = q c.1 in
       record {
         more = c.0.more + 0;
@@ -352,7 +352,7 @@ module _ (R : Rules) (g : ℕ → ℕ) (fit : Fits R g) (f : List ℕ) (a : Aski
         said = ap₂ (λ (x : Says) (m : ℕ). verdict_count x + m) e r.verdicts;
         abandoned = ap₂ (λ (m k : ℕ). m + k) b r.abandons;
       }
-  onward-sofar (both v u) L n t o w os e b c p q = absurd c
+  onward_sofar (both v u) L n t o w os e b c p q = absurd c
 
   restarted : (l : Link) (os : List Out) → Sends R f a l → Resting R.choice.role f a os → Sofar R.choice.role f a (copies_of l.core.job) restarted_first (restart_out l ∷ os)
   restarted l os d r =
@@ -365,29 +365,29 @@ module _ (R : Rules) (g : ℕ → ℕ) (fit : Fits R g) (f : List ℕ) (a : Aski
         abandoned = ap₂ (λ (y n : ℕ). y + n) (restart_says d) r.abandons;
       }
 
-  taken-sofar : (w : What) (l : Link) (k : Link → Watch) (m : Link → List Out) → Sends R f a l → checks_of l w ≡ Passes
+  taken_sofar : (w : What) (l : Link) (k : Link → Watch) (m : Link → List Out) → Sends R f a l → checks_of l w ≡ Passes
       → ((z : Link) → Sends R f a z → Sofar R.choice.role f a (copies_of z.core.job) (k z) (m z)) → ((z : Link) → z.core.job ≡ Idle → Resting R.choice.role f a (m z))
       → Sofar R.choice.role f a (copies_of l.core.job) (watch_taken a w (out_of R l w) (k (out_of R l w).link)) (outs_taken w (out_of R l w) (m (out_of R l w).link))
-  taken-sofar (byte b) l k m d e i j =
-      onward-sofar (verdict_of a (out_of R l (byte b))) _ _ 0 _ _ _ refl (byte_unsaid R l b) (byte-gave R g fit f a l b d) (i _) (j _)
-  taken-sofar (bytes bs) l k m d e i j =
-      onward-sofar (verdict_of a (out_of R l (bytes bs))) _ _ 0 _ _ _ refl (run_unsaid R l bs) (run-gave R g fit f a l bs d) (i _) (j _)
-  taken-sofar tick l k m d e i j = onward-sofar (verdict_of a (out_of R l tick)) _ _ 1 _ _ _ refl (tick_unsaid R l) (tick-gave R g fit f a l d) (i _) (j _)
-  taken-sofar (send kind command ps) l k m d e i j = absurd (none_free d (send_free l kind (length ps) e))
-  taken-sofar (session_call command ps) l k m d e i j = absurd (none_free d (session_free l (length ps) e))
-  taken-sofar restart l k m d e i j = restarted l (m (restart_out l).link) d (j _ (restart_idle l))
+  taken_sofar (byte b) l k m d e i j =
+      onward_sofar (verdict_of a (out_of R l (byte b))) _ _ 0 _ _ _ refl (byte_unsaid R l b) (byte_gave R g fit f a l b d) (i _) (j _)
+  taken_sofar (bytes bs) l k m d e i j =
+      onward_sofar (verdict_of a (out_of R l (bytes bs))) _ _ 0 _ _ _ refl (run_unsaid R l bs) (run_gave R g fit f a l bs d) (i _) (j _)
+  taken_sofar tick l k m d e i j = onward_sofar (verdict_of a (out_of R l tick)) _ _ 1 _ _ _ refl (tick_unsaid R l) (tick_gave R g fit f a l d) (i _) (j _)
+  taken_sofar (send kind command ps) l k m d e i j = absurd (none_free d (send_free l kind (length ps) e))
+  taken_sofar (session_call command ps) l k m d e i j = absurd (none_free d (session_free l (length ps) e))
+  taken_sofar restart l k m d e i j = restarted l (m (restart_out l).link) d (j _ (restart_idle l))
 
-  open-sofar : (h : List Call) (l : Link) → Sends R f a l → Sofar R.choice.role f a (copies_of l.core.job) (watch R a l h) (outs R l h)
-  open-sofar [] l d = record { more = 0; mix = finish; few = omega (arith, good_few d.good); spent = tt; said = refl; abandoned = refl }
-  open-sofar (c ∷ h) l d =
+  open_sofar : (h : List Call) (l : Link) → Sends R f a l → Sofar R.choice.role f a (copies_of l.core.job) (watch R a l h) (outs R l h)
+  open_sofar [] l d = record { more = 0; mix = finish; few = omega (arith, good_few d.good); spent = tt; said = refl; abandoned = refl }
+  open_sofar (c ∷ h) l d =
       done_by_lem (Sofar R.choice.role f a (copies_of l.core.job)) a c.what l (room_checks c.line c.up (checks_of l c.what)) (out_of R l c.what) (λ z. watch R a z h) (λ z. outs R z h)
-      (open-sofar h l d)
-      (λ e. taken-sofar c.what l (λ z. watch R a z h) (λ z. outs R z h) d (room_passed c.line c.up (checks_of l c.what) e).2 (open-sofar h) (idle-rests R f a h))
+      (open_sofar h l d)
+      (λ e. taken_sofar c.what l (λ z. watch R a z h) (λ z. outs R z h) d (room_passed c.line c.up (checks_of l c.what) e).2 (open_sofar h) (idle_rests R f a h))
 
   -- from the accepting call, which gave o
-  pub sofar-from : (h : List Call) (L n t : ℕ) (o : Out) → NotAbandoned o → Outcome R g f a L n t (verdict_of a o) o
+  pub sofar_from : (h : List Call) (L n t : ℕ) (o : Out) → NotAbandoned o → Outcome R g f a L n t (verdict_of a o) o
       → Sofar R.choice.role f a n (onward (verdict_of a o) t o.line (watch R a o.link h)) (o ∷ outs R o.link h)
-  sofar-from h L n t o b c = onward-sofar (verdict_of a o) L n t o _ _ refl b c (open-sofar h o.link) (idle-rests R f a h o.link)
+  sofar_from h L n t o b c = onward_sofar (verdict_of a o) L n t o _ _ refl b c (open_sofar h o.link) (idle_rests R f a h o.link)
 
 pub one_at_most : (w : Watch) → verdicts_by w ≤ 1
 one_at_most (going t l) = omega arith

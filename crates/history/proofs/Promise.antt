@@ -68,42 +68,42 @@ call_matches own o l line up r line' up' p =
 
 module _ (R : Rules) (l : Link) where
   -- Each call's promise, over the very text of its contract, is what the history's call does.
-  pub byte-tied : (b : ℕ) (line up : List ℕ) (r : Answered) (line' up' : List ℕ) → CallPromise Passes (byte_out R l b) l line up r line' up'
+  pub byte_tied : (b : ℕ) (line up : List ℕ) (r : Answered) (line' up' : List ℕ) → CallPromise Passes (byte_out R l b) l line up r line' up'
       → Performs R l (played (byte b) line up (by_call r.answer) line' up') r.link
-  byte-tied b line up r line' up' p =
+  byte_tied b line up r line' up' p =
       let m = call_matches Passes (byte_out R l b) l line up r line' up' p in
       record { link = m.link; tied = record { told = ap by_call m.answer; line_left = m.line_left; up_left = m.up_left } }
 
-  pub tick-tied : (line up : List ℕ) (r : Answered) (line' up' : List ℕ) → CallPromise Passes (tick_out R l) l line up r line' up'
+  pub tick_tied : (line up : List ℕ) (r : Answered) (line' up' : List ℕ) → CallPromise Passes (tick_out R l) l line up r line' up'
       → Performs R l (played tick line up (by_call r.answer) line' up') r.link
-  tick-tied line up r line' up' p =
+  tick_tied line up r line' up' p =
       let m = call_matches Passes (tick_out R l) l line up r line' up' p in
       record { link = m.link; tied = record { told = ap by_call m.answer; line_left = m.line_left; up_left = m.up_left } }
 
-  pub send-tied : (kind command : ℕ) (ps line up : List ℕ) (r : Answered) (line' up' : List ℕ)
+  pub send_tied : (kind command : ℕ) (ps line up : List ℕ) (r : Answered) (line' up' : List ℕ)
       → CallPromise (send_own l.core.job kind (length ps)) (open_out l Plain (frame_of kind command ps)) l line up r line' up'
       → Performs R l (played (send kind command ps) line up (by_call r.answer) line' up') r.link
-  send-tied kind command ps line up r line' up' p =
+  send_tied kind command ps line up r line' up' p =
       let m = call_matches (send_own l.core.job kind (length ps)) (open_out l Plain (frame_of kind command ps)) l line up r line' up' p in
       record { link = m.link; tied = record { told = ap by_call m.answer; line_left = m.line_left; up_left = m.up_left } }
 
-  pub session-tied : (command : ℕ) (ps line up : List ℕ) (r : Answered) (line' up' : List ℕ)
+  pub session_tied : (command : ℕ) (ps line up : List ℕ) (r : Answered) (line' up' : List ℕ)
       → CallPromise (session_own l.core.job (length ps)) (open_out l (Asks command) (frame_of REQ command ps)) l line up r line' up'
       → Performs R l (played (session command ps) line up (by_call r.answer) line' up') r.link
-  session-tied command ps line up r line' up' p =
+  session_tied command ps line up r line' up' p =
       let m = call_matches (session_own l.core.job (length ps)) (open_out l (Asks command) (frame_of REQ command ps)) l line up r line' up' p in
       record { link = m.link; tied = record { told = ap by_call m.answer; line_left = m.line_left; up_left = m.up_left } }
 
-  pub restart-tied : (line up : List ℕ) (r : Answered) (line' up' : List ℕ) → CallPromise Passes (restart_out l) l line up r line' up'
+  pub restart_tied : (line up : List ℕ) (r : Answered) (line' up' : List ℕ) → CallPromise Passes (restart_out l) l line up r line' up'
       → Performs R l (played restart line up (by_call r.answer) line' up') r.link
-  restart-tied line up r line' up' p =
+  restart_tied line up r line' up' p =
       let m = call_matches Passes (restart_out l) l line up r line' up' p in
       record { link = m.link; tied = record { told = ap by_call m.answer; line_left = m.line_left; up_left = m.up_left } }
 
   -- and a run of bytes
-  pub run-tied : (bs line up : List ℕ) (r : Ran) (line' up' : List ℕ) → RunPromise (run_out R l bs) l line up r line' up'
+  pub run_tied : (bs line up : List ℕ) (r : Ran) (line' up' : List ℕ) → RunPromise (run_out R l bs) l line up r line' up'
       → Performs R l (played (bytes bs) line up (by_run r.answer) line' up') r.link
-  run-tied bs line up r line' up' p =
+  run_tied bs line up r line' up' p =
       let c = checks line up Passes in
       let t = run_out R l bs in
       record {
@@ -117,12 +117,12 @@ module _ (R : Rules) (l : Link) where
       }
 
   pub promised : (p : Played) (m : Link) → Promised R l p m → Performs R l p m
-  promised p m (byte_call b line up r line' up' k) = byte-tied b line up r line' up' k
-  promised p m (bytes_call bs line up r line' up' k) = run-tied bs line up r line' up' k
-  promised p m (tick_call line up r line' up' k) = tick-tied line up r line' up' k
-  promised p m (send_call kind command ps line up r line' up' k) = send-tied kind command ps line up r line' up' k
-  promised p m (session_call command ps line up r line' up' k) = session-tied command ps line up r line' up' k
-  promised p m (restart_call line up r line' up' k) = restart-tied line up r line' up' k
+  promised p m (byte_call b line up r line' up' k) = byte_tied b line up r line' up' k
+  promised p m (bytes_call bs line up r line' up' k) = run_tied bs line up r line' up' k
+  promised p m (tick_call line up r line' up' k) = tick_tied line up r line' up' k
+  promised p m (send_call kind command ps line up r line' up' k) = send_tied kind command ps line up r line' up' k
+  promised p m (session_call command ps line up r line' up' k) = session_tied command ps line up r line' up' k
+  promised p m (restart_call line up r line' up' k) = restart_tied line up r line' up' k
 
 -- ---- what was chosen stays
 -- No call changes what the link was opened as; a restart neither.

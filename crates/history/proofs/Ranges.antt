@@ -48,10 +48,10 @@ use Rattle.history.specs.Ranges.{ComeAll, IsByte, HearingIn, IsInside, JobIn, In
 use Rattle.history.proofs.Hearing.{StillInside, InTime, byte_steps, tick_steps}
 use Rattle.refusals.proofs.Picks.{pick_by, pick_ok}
 use Rattle.history.proofs.Job.{Good, due, waits, backs, awaiting}
-use Rattle.history.proofs.Links.{Sends, Outcome, byte-gave, tick-gave}
+use Rattle.history.proofs.Links.{Sends, Outcome, byte_gave, tick_gave}
 use Rattle.history.proofs.Histories.{Keeps, after_keeps, Any, any_calls}
-use Rattle.history.proofs.Once.{byte-rests, tick-rests}
-use Rattle.history.proofs.Demand3.{open-gave, rules_fit}
+use Rattle.history.proofs.Once.{byte_rests, tick_rests}
+use Rattle.history.proofs.Demand3.{open_gave, rules_fit}
 
 -- ---- hearing
 abbrev HeardIn : Heard → Type 0
@@ -175,36 +175,36 @@ module _ (R : Rules) (g : ℕ → ℕ) (fit : Fits R g) where
   sends : (l : Link) (a : Asking) → InTime l.core.hearing → Good R l.core.size l.core.hearing a l.core.job → Sends R (take l.core.size l.frame) a l
   sends l a i d = record { time = i; good = d; held = refl }
 
-  byte-fine : (l : Link) (b : ℕ) → InTime l.core.hearing → (j : Fine R l.core.size l.core.hearing l.core.job)
+  byte_fine : (l : Link) (b : ℕ) → InTime l.core.hearing → (j : Fine R l.core.size l.core.hearing l.core.job)
       → Fine R (byte_out R l b).link.core.size (byte_out R l b).link.core.hearing (byte_out R l b).link.core.job
-  byte-fine l b i (idle e) = idle (byte-rests R [] Plain l b e).idle
-  byte-fine l b i (active a d) = outcome_fine R g _ a (verdict_of a (byte_out R l b)) _ _ 0 (byte_out R l b) (byte-gave R g fit _ a l b (sends l a i d))
+  byte_fine l b i (idle e) = idle (byte_rests R [] Plain l b e).idle
+  byte_fine l b i (active a d) = outcome_fine R g _ a (verdict_of a (byte_out R l b)) _ _ 0 (byte_out R l b) (byte_gave R g fit _ a l b (sends l a i d))
 
-  tick-fine : (l : Link) → InTime l.core.hearing → (j : Fine R l.core.size l.core.hearing l.core.job)
+  tick_fine : (l : Link) → InTime l.core.hearing → (j : Fine R l.core.size l.core.hearing l.core.job)
       → Fine R (tick_out R l).link.core.size (tick_out R l).link.core.hearing (tick_out R l).link.core.job
-  tick-fine l i (idle e) = idle (tick-rests R [] Plain l e).idle
-  tick-fine l i (active a d) = outcome_fine R g _ a (verdict_of a (tick_out R l)) _ _ 1 (tick_out R l) (tick-gave R g fit _ a l (sends l a i d))
+  tick_fine l i (idle e) = idle (tick_rests R [] Plain l e).idle
+  tick_fine l i (active a d) = outcome_fine R g _ a (verdict_of a (tick_out R l)) _ _ 1 (tick_out R l) (tick_gave R g fit _ a l (sends l a i d))
 
-  byte-time : (l : Link) (b : ℕ) → InTime l.core.hearing → InTime (byte_out R l b).link.core.hearing
+  byte_time : (l : Link) (b : ℕ) → InTime l.core.hearing → InTime (byte_out R l b).link.core.hearing
   unfolding byte_out
-  byte-time l b i = (byte_steps b l.core.hearing i).ok
+  byte_time l b i = (byte_steps b l.core.hearing i).ok
 
-  tick-time : (l : Link) → InTime l.core.hearing → InTime (tick_out R l).link.core.hearing
+  tick_time : (l : Link) → InTime l.core.hearing → InTime (tick_out R l).link.core.hearing
   unfolding tick_out
-  tick-time l i = (tick_steps l.core.hearing i).ok
+  tick_time l i = (tick_steps l.core.hearing i).ok
 
-  open-time : (l : Link) (a : Asking) (f : List ℕ) → InTime l.core.hearing → InTime (open_out l a f).link.core.hearing
+  open_time : (l : Link) (a : Asking) (f : List ℕ) → InTime l.core.hearing → InTime (open_out l a f).link.core.hearing
   unfolding open_out
-  open-time l a f i = i
+  open_time l a f i = i
 
-  fine-keeps : Keeps R Any (FineOn R)
-  fine-keeps =
+  fine_keeps : Keeps R Any (FineOn R)
+  fine_keeps =
       record {
-        byte = λ l b x k. record { time = byte-time l b k.time; job = byte-fine l b k.time k.job };
-        tick = λ l k. record { time = tick-time l k.time; job = tick-fine l k.time k.job };
+        byte = λ l b x k. record { time = byte_time l b k.time; job = byte_fine l b k.time k.job };
+        tick = λ l k. record { time = tick_time l k.time; job = tick_fine l k.time k.job };
         begin = λ l a kind command ps n k.
             let f = frame_of kind command ps in
-            record { time = open-time l a f k.time; job = outcome_fine R g _ a (verdict_of a (open_out l a f)) _ 0 0 (open_out l a f) (open-gave R g fit l a f k.time) };
+            record { time = open_time l a f k.time; job = outcome_fine R g _ a (verdict_of a (open_out l a f)) _ 0 0 (open_out l a f) (open_gave R g fit l a f k.time) };
         fresh = λ c. record { time = tt; job = idle refl };
       }
 
@@ -220,69 +220,69 @@ module _ (R : Rules) (most : ℕ) (longest : (cause : Cause) (n : ℕ) → R.bac
   abbrev S : Act → Type 0
   S x = Short most x.job
 
-  start-short : (hunting : Bool) (a : Asking) (n : ℕ) → S (start hunting a n)
-  start-short true a n = tt
-  start-short false a n = tt
+  start_short : (hunting : Bool) (a : Asking) (n : ℕ) → S (start hunting a n)
+  start_short true a n = tt
+  start_short false a n = tt
 
-  lose-short : (cause : Cause) (hunting : Bool) (a : Asking) (n : ℕ) → S (lose R cause hunting a n)
-  lose-short cause hunting a n =
-      pick_ok S (ltb n 4) _ _ (pick_ok S (eqb (R.back cause n) 0) _ _ (start-short hunting a n) (longest cause n)) tt
+  lose_short : (cause : Cause) (hunting : Bool) (a : Asking) (n : ℕ) → S (lose R cause hunting a n)
+  lose_short cause hunting a n =
+      pick_ok S (ltb n 4) _ _ (pick_ok S (eqb (R.back cause n) 0) _ _ (start_short hunting a n) (longest cause n)) tt
 
-  single-short : (s : Single) (j : Job) → Short most j → S (on_single R s j)
-  single-short s Idle k = tt
-  single-short s (Due a n) k = tt
-  single-short Ack (Waiting Plain n e) k = tt
-  single-short Ack (Waiting (Asks c) n e) k = tt
-  single-short Nak (Waiting a n e) k = lose-short Told true a n
-  single-short Can (Waiting a n e) k = lose-short Told true a n
-  single-short s (BackingOff a n b) k = k
-  single-short s (Awaiting c n e) k = tt
+  single_short : (s : Single) (j : Job) → Short most j → S (on_single R s j)
+  single_short s Idle k = tt
+  single_short s (Due a n) k = tt
+  single_short Ack (Waiting Plain n e) k = tt
+  single_short Ack (Waiting (Asks c) n e) k = tt
+  single_short Nak (Waiting a n e) k = lose_short Told true a n
+  single_short Can (Waiting a n e) k = lose_short Told true a n
+  single_short s (BackingOff a n b) k = k
+  single_short s (Awaiting c n e) k = tt
 
-  release-short : (j : Job) → Short most j → S (release j)
-  release-short Idle k = tt
-  release-short (Due a n) k = tt
-  release-short (Waiting a n e) k = tt
-  release-short (BackingOff a n b) k = k
-  release-short (Awaiting c n e) k = tt
+  release_short : (j : Job) → Short most j → S (release j)
+  release_short Idle k = tt
+  release_short (Due a n) k = tt
+  release_short (Waiting a n e) k = tt
+  release_short (BackingOff a n b) k = k
+  release_short (Awaiting c n e) k = tt
 
   end_short : (e : End) (j : Job) → Short most j → S (on_end e j)
-  end_short end.BadLength j k = release-short j k
-  end_short end.BadSum j k = release-short j k
-  end_short end.Reserved j k = release-short j k
-  end_short (end.Request size) j k = release-short j k
-  end_short (end.Response size command) j k = pick_ok S (awaits command j) _ _ tt (release-short j k)
+  end_short end.BadLength j k = release_short j k
+  end_short end.BadSum j k = release_short j k
+  end_short end.Reserved j k = release_short j k
+  end_short (end.Request size) j k = release_short j k
+  end_short (end.Response size command) j k = pick_ok S (awaits command j) _ _ tt (release_short j k)
 
-  tick-short : (size : ℕ) (hunting : Bool) (j : Job) → Short most j → S (on_tick R size hunting j)
-  tick-short size hunting Idle k = tt
-  tick-short size hunting (Due a n) k = tt
-  tick-short size hunting (Waiting a n e) k = pick_ok S (ltb (e + 1) (R.wait size)) _ _ tt (lose-short Time hunting a n)
-  tick-short size hunting (BackingOff a n b) k = pick_ok S (ltb 1 b) _ _ (omega arith) (start-short hunting a n)
-  tick-short size hunting (Awaiting c n e) k = pick_ok S (ltb (e + 1) 5000) _ _ tt tt
+  tick_short : (size : ℕ) (hunting : Bool) (j : Job) → Short most j → S (on_tick R size hunting j)
+  tick_short size hunting Idle k = tt
+  tick_short size hunting (Due a n) k = tt
+  tick_short size hunting (Waiting a n e) k = pick_ok S (ltb (e + 1) (R.wait size)) _ _ tt (lose_short Time hunting a n)
+  tick_short size hunting (BackingOff a n b) k = pick_ok S (ltb 1 b) _ _ (omega arith) (start_short hunting a n)
+  tick_short size hunting (Awaiting c n e) k = pick_ok S (ltb (e + 1) 5000) _ _ tt tt
 
-  abort-short : (size : ℕ) (j : Job) → Short most j → S (on_abort R size j)
-  abort-short size Idle k = tt
-  abort-short size (Due a n) k = tt
-  abort-short size (Waiting a n e) k = tick-short size true (Waiting a n e) tt
-  abort-short size (BackingOff a n b) k = tick-short size true (BackingOff a n b) k
-  abort-short size (Awaiting c n e) k = tick-short size true (Awaiting c n e) tt
+  abort_short : (size : ℕ) (j : Job) → Short most j → S (on_abort R size j)
+  abort_short size Idle k = tt
+  abort_short size (Due a n) k = tt
+  abort_short size (Waiting a n e) k = tick_short size true (Waiting a n e) tt
+  abort_short size (BackingOff a n b) k = tick_short size true (BackingOff a n b) k
+  abort_short size (Awaiting c n e) k = tick_short size true (Awaiting c n e) tt
 
-  act-short : (size : ℕ) (e : Event) (j : Job) → Short most j → S (on_event R size e j)
-  act-short size Inside j k = k
-  act-short size (Kept at) j k = k
-  act-short size Skipped j k = k
-  act-short size (Alone s) j k = single-short s j k
-  act-short size (Ended e) j k = end_short e j k
-  act-short size TickHunting j k = tick-short size true j k
-  act-short size TickInside j k = tick-short size false j k
-  act-short size Aborted j k = abort-short size j k
+  act_short : (size : ℕ) (e : Event) (j : Job) → Short most j → S (on_event R size e j)
+  act_short size Inside j k = k
+  act_short size (Kept at) j k = k
+  act_short size Skipped j k = k
+  act_short size (Alone s) j k = single_short s j k
+  act_short size (Ended e) j k = end_short e j k
+  act_short size TickHunting j k = tick_short size true j k
+  act_short size TickInside j k = tick_short size false j k
+  act_short size Aborted j k = abort_short size j k
 
-  short-keeps : Keeps R Any (λ (l : Link). Short most l.core.job)
+  short_keeps : Keeps R Any (λ (l : Link). Short most l.core.job)
   unfolding byte_out tick_out open_out
-  short-keeps =
+  short_keeps =
       record {
-        byte = λ l b x k. act-short l.core.size (hear_byte b l.core.hearing).event l.core.job k;
-        tick = λ l k. act-short l.core.size (hear_tick l.core.hearing).event l.core.job k;
-        begin = λ l a kind command ps n k. start-short (is_hunting l.core.hearing) a 0;
+        byte = λ l b x k. act_short l.core.size (hear_byte b l.core.hearing).event l.core.job k;
+        tick = λ l k. act_short l.core.size (hear_tick l.core.hearing).event l.core.job k;
+        begin = λ l a kind command ps n k. start_short (is_hunting l.core.hearing) a 0;
         fresh = λ c. tt;
       }
 
@@ -306,10 +306,10 @@ pub in_range_by : (R : Rules) (g : ℕ → ℕ) → Fits R g → (most : ℕ) �
     → (h : List Call) → ComeAll IsByte h → InRange R most (after R h)
 in_range_by R g fit most longest h x =
     let z = after_keeps R Any Sizes (sizes_keeps R) h (any_calls h) in
-    let j = after_keeps R Any (FineOn R) (fine-keeps R g fit) h (any_calls h) in
+    let j = after_keeps R Any (FineOn R) (fine_keeps R g fit) h (any_calls h) in
     record {
       hearing = after_keeps R IsByte (λ (l : Link). HearingIn l.core.hearing) (hearing_keeps R) h x;
-      job = job_in most (after R h).core.job j.job (after_keeps R Any (λ (l : Link). Short most l.core.job) (short-keeps R most longest) h (any_calls h));
+      job = job_in most (after R h).core.job j.job (after_keeps R Any (λ (l : Link). Short most l.core.job) (short_keeps R most longest) h (any_calls h));
       bad = after_keeps R Any (λ (l : Link). l.core.bad ≤ 2) (bad_keeps R) h (any_calls h);
       size = z.size;
       body = z.body;

@@ -33,9 +33,6 @@ use Rattle.job.specs.declared.job.Job.TheVariants.{Idle, Due, Waiting, BackingOf
 use Rattle.report.specs.declared.Reception.TheVariants as reception
 use Rattle.reception.specs.declared.said.Reply.{Reply}
 use Rattle.reception.specs.declared.said.Reply.TheVariants as reply
-use Rattle.report.specs.declared.Reset.TheVariants as reset
-use Rattle.report.specs.declared.Sending.TheVariants as sending
-use Rattle.report.specs.declared.Session.TheVariants as session
 use Rattle.link.specs.declared.link.Link.{Link}
 use Rattle.history.specs.Ranges.{IsInside}
 use Rattle.history.specs.Section11.{clock_of, cancels_now, NothingOrCopy, EndsAs, InFrame, unended, ends, Ticked, counts, aborts, GoesOut, end_answer, DueByte, stays, leaves, DueTick, still_due, out_by_abort, AtMostCopy, no_copy, one_copy}

@@ -40,7 +40,7 @@ use Rattle.job.specs.declared.job.Job.TheVariants.{Waiting}
 use Rattle.sending.specs.Events.{awaited_by, on_end}
 use Rattle.step.specs.Deciding.{decided, decide}
 use Rattle.step.specs.declared.deciding.Outcome.{Outcome}
-use Rattle.step.specs.declared.core.Core.{Core}
+use Rattle.step.specs.declared.numbers.Core.{Core}
 use Rattle.step.proofs.Choices.{event_alike}
 use Rattle.link.specs.Out.{Out, out, heard_out, byte_by, byte_out, tick_out, run_out}
 use Rattle.link.specs.declared.link.Link.{Link}
@@ -71,6 +71,9 @@ end_cancels R k body frame (end.Request size) (request s) m a n t =
     record { hunting = refl; reception = simp m; line = simp m; up = simp m; bad = refl; job = refl; sending = refl; session = refl; reset = refl; news = simp m }
 end_cancels R k body frame (end.Response size command) (response s c) m a n t =
     record { hunting = refl; reception = simp m; line = simp m; up = simp m; bad = refl; job = refl; sending = refl; session = refl; reset = refl; news = simp m }
+end_cancels R k body frame end.BadLength f m a n t = elim f [ ]
+end_cancels R k body frame end.BadSum f m a n t = elim f [ ]
+end_cancels R k body frame end.Reserved f m a n t = elim f [ ]
 
 is_frame_end : (p : Partial) (k : ℕ) → p.kind ≡ k → k ≤ RES → IsFrameEnd (ended p)
 is_frame_end p zero q h = simp q (request p.size)

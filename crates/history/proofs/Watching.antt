@@ -26,8 +26,8 @@ use Rattle.history.specs.Bound.{Fits}
 use Rattle.history.specs.Watch.{copies_in, Says, none, says, both, verdict_of, Watch, going, restarted_first, settled, add, onward, watch_taken, watch_done, watch, watched}
 use Rattle.history.specs.Demand3.{Kept, IsOver, NotRestarted}
 use Rattle.history.proofs.Mix.{Mix, end as finish, mix_append, IsFrame, mix_frames}
-use Rattle.history.proofs.Job.{Good, due, waits, backs, awaiting, left-pos, good_few}
-use Rattle.history.proofs.Links.{Sends, left_on, Goes, Ends, Outcome, byte-gave, tick-gave, run-gave}
+use Rattle.history.proofs.Job.{Good, due, waits, backs, awaiting, left_pos, good_few}
+use Rattle.history.proofs.Links.{Sends, left_on, Goes, Ends, Outcome, byte_gave, tick_gave, run_gave}
 use Rattle.history.proofs.Histories.{send_free, session_free, Free}
 use Rattle.step.proofs.Passed.{room_passed}
 
@@ -78,26 +78,26 @@ module _ (R : Rules) (g : ℕ → ℕ) (fit : Fits R g) (f : List ℕ) (a : Aski
         own = k.own;
       }
 
-  pub onward-ok : (s : Says) (L n t : ℕ) (o : Out) (w : Watch) → Outcome R g f a L n t s o → (Sends R f a o.link → OnWatch o.link w)
+  pub onward_ok : (s : Says) (L n t : ℕ) (o : Out) (w : Watch) → Outcome R g f a L n t s o → (Sends R f a o.link → OnWatch o.link w)
       → Watched R.choice.role f a L n (onward s t o.line w)
-  onward-ok none L n t o w c k = add_ok L n t o w c (k c.sends)
-  onward-ok (says v) L n t o w c k = c.0
-  onward-ok (both v u) L n t o w c k = absurd c
+  onward_ok none L n t o w c k = add_ok L n t o w c (k c.sends)
+  onward_ok (says v) L n t o w c k = c.0
+  onward_ok (both v u) L n t o w c k = absurd c
 
-  taken-ok : (w : What) (l : Link) (k : Link → Watch) → Sends R f a l → checks_of l w ≡ Passes → ((z : Link) → Sends R f a z → OnWatch z (k z))
+  taken_ok : (w : What) (l : Link) (k : Link → Watch) → Sends R f a l → checks_of l w ≡ Passes → ((z : Link) → Sends R f a z → OnWatch z (k z))
       → OnWatch l (watch_taken a w (out_of R l w) (k (out_of R l w).link))
-  taken-ok (byte b) l k d e i = onward-ok (verdict_of a (out_of R l (byte b))) _ _ 0 _ _ (byte-gave R g fit f a l b d) (i _)
-  taken-ok (bytes bs) l k d e i = onward-ok (verdict_of a (out_of R l (bytes bs))) _ _ 0 _ _ (run-gave R g fit f a l bs d) (i _)
-  taken-ok tick l k d e i = onward-ok (verdict_of a (out_of R l tick)) _ _ 1 _ _ (tick-gave R g fit f a l d) (i _)
-  taken-ok (send kind command ps) l k d e i = absurd (none_free d (send_free l kind (length ps) e))
-  taken-ok (session command ps) l k d e i = absurd (none_free d (session_free l (length ps) e))
-  taken-ok restart l k d e i = tt
+  taken_ok (byte b) l k d e i = onward_ok (verdict_of a (out_of R l (byte b))) _ _ 0 _ _ (byte_gave R g fit f a l b d) (i _)
+  taken_ok (bytes bs) l k d e i = onward_ok (verdict_of a (out_of R l (bytes bs))) _ _ 0 _ _ (run_gave R g fit f a l bs d) (i _)
+  taken_ok tick l k d e i = onward_ok (verdict_of a (out_of R l tick)) _ _ 1 _ _ (tick_gave R g fit f a l d) (i _)
+  taken_ok (send kind command ps) l k d e i = absurd (none_free d (send_free l kind (length ps) e))
+  taken_ok (session command ps) l k d e i = absurd (none_free d (session_free l (length ps) e))
+  taken_ok restart l k d e i = tt
 
-  pub watch-ok : (h : List Call) (l : Link) → Sends R f a l → OnWatch l (watch R a l h)
-  watch-ok [] l d = record { soon = left-pos R g fit l.core.size l.core.hearing d.good; more = 0; mix = finish; few = omega (arith, good_few d.good) }
-  watch-ok (c ∷ h) l d =
-      done_by_lem (OnWatch l) a c.what l (room_checks c.line c.up (checks_of l c.what)) (out_of R l c.what) (λ z. watch R a z h) (watch-ok h l d)
-      (λ e. taken-ok c.what l (λ z. watch R a z h) d (room_passed c.line c.up (checks_of l c.what) e).2 (watch-ok h))
+  pub watch_ok : (h : List Call) (l : Link) → Sends R f a l → OnWatch l (watch R a l h)
+  watch_ok [] l d = record { soon = left_pos R g fit l.core.size l.core.hearing d.good; more = 0; mix = finish; few = omega (arith, good_few d.good) }
+  watch_ok (c ∷ h) l d =
+      done_by_lem (OnWatch l) a c.what l (room_checks c.line c.up (checks_of l c.what)) (out_of R l c.what) (λ z. watch R a z h) (watch_ok h l d)
+      (λ e. taken_ok c.what l (λ z. watch R a z h) d (room_passed c.line c.up (checks_of l c.what) e).2 (watch_ok h))
 
 -- ---- from the bytes' shape to the frames found
 pub copies_are : {role : Role} {f : List ℕ} {n : ℕ} {l : List ℕ} → IsFrame f → Mix role f n l → frames l ≡ replicate (length (frames l)) f

@@ -9,7 +9,7 @@ use Rattle.job.specs.declared.job.Asking.TheVariants.{Plain, Asks}
 use Rattle.step.specs.Core.{fresh_core}
 use Rattle.step.specs.Checks.{send_own, session_own}
 use Rattle.step.specs.declared.checks.Checked.TheVariants.{Passes}
-use Rattle.step.specs.declared.core.Core.{Core}
+use Rattle.step.specs.declared.numbers.Core.{Core}
 use Rattle.link.specs.Link.{no_body, no_frame}
 use Rattle.link.specs.Out.{run_out, byte_out, tick_out, open_out, restart_out}
 use Rattle.link.specs.Calls.{CallPromise, RunPromise}

@@ -9,13 +9,13 @@ use rules::{Cause, Choice, Mode};
 use units::Millis;
 
 // Whether the open send is a session, and then which command it asks for.
-#[derive(Drop)]
+#[derive(Clone, Copy)]
 pub enum Asking {
     Plain,
     Asks { command: u8 },
 }
 
-#[derive(Drop)]
+#[derive(Clone, Copy)]
 pub enum Job {
     Idle,
     Due {
@@ -59,7 +59,7 @@ impl Job {
     pub const SOONER_3: Millis = Millis(500);
 }
 
-#[derive(Drop)]
+#[derive(Clone, Copy)]
 pub struct Act {
     pub job: Job,
     pub sending: Sending,

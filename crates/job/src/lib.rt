@@ -1,4 +1,6 @@
 // The job (document 01, sections 5 and 6): the open send or session, its copies and its time.
+#![tactic(auto)]
+
 mod job;
 mod ticks;
 mod wire;

@@ -1,15 +1,20 @@
 // linecount (document 01, section 9): counts what stands in the raw bytes of standard input.
+#![tactic(auto)]
+
 ghost use Rattle.linecount.specs.Promises.{Within};
 ghost use Rattle.std.specs.Prelude.{length};
 
-use libc::{STDERR_FILENO, STDIN_FILENO, STDOUT_FILENO};
+use std::io::Read;
 use tally::Tally;
 
 // The most bytes that are counted.
 const MOST: usize = 16777216;
 
+// So many bytes are read at once.
+const PART: usize = 65536;
+
 // What one read came to. An error is never the end of the input.
-#[derive(Drop)]
+#[derive(Clone, Copy)]
 enum Got {
     Bytes(usize),
     End,
@@ -17,7 +22,7 @@ enum Got {
 }
 
 // What the whole reading came to.
-#[derive(Drop)]
+#[derive(Clone, Copy)]
 enum Seen {
     // The input ended.
     All(Tally),
@@ -27,27 +32,23 @@ enum Seen {
 }
 
 // One read, of at most so many bytes, to the front of buf.
-fn read_some(buf: &mut [u8], most: usize) -> Got
+fn read_some(input: &mut impl Read, buf: &mut [u8], most: usize) -> Got
     ensures { Within most (length buf.new) result }
 {
     let room = frame::least(most, buf.len());
-    let got = libc::read(STDIN_FILENO, &mut buf[..room]);
-    if got < 0 {
-        return Got::Failed;
+    match input.read(&mut buf[..room]) {
+        Err(_) => Got::Failed,
+        Ok(0) => Got::End,
+        Ok(n) => Got::Bytes(n),
     }
-    let n = frame::least(io::count(got, buf), room);
-    if n == 0 {
-        return Got::End;
-    }
-    Got::Bytes(n)
 }
 
 // Every turn counts at least one byte, so the loop ends.
-fn count_input(buf: &mut [u8]) -> Seen {
+fn count_input(input: &mut impl Read, buf: &mut [u8]) -> Seen {
     let mut tally = tally::fresh();
     let mut left = MOST;
     while left > 0 {
-        let got = read_some(buf, left);
+        let got = read_some(input, buf, left);
         match got {
             Got::Failed => return Seen::Failed,
             Got::End => return Seen::All(tally),
@@ -60,51 +61,50 @@ fn count_input(buf: &mut [u8]) -> Seen {
     Seen::Most(tally)
 }
 
-fn complain(sentence: &[u8]) {
-    io::write_all(STDERR_FILENO, sentence);
+// Says what failed. Where even that can't be written there is nowhere left to say it.
+fn complain(rt: &impl Eprint, sentence: &str) {
+    let _ = rt.eprintln(sentence);
 }
 
 // One line, where all before it was written; whether it was, too.
-fn print_line(is_written: bool, key: &[u8], n: u64) -> bool {
-    is_written
-        && io::write_all(STDOUT_FILENO, key)
-        && io::print_decimal(STDOUT_FILENO, n)
-        && io::write_all(STDOUT_FILENO, b"\n")
+fn print_line(rt: &impl Print, is_written: bool, key: &[u8], n: u64) -> bool {
+    is_written && rt.write_all(key).is_ok() && rt.print(n).is_ok() && rt.write_all(b"\n").is_ok()
 }
 
-fn print(tally: Tally, cut: u64) {
+fn print(rt: &(impl Print + Eprint), tally: Tally, cut: u64) {
     let counts = tally.counts;
-    let a = print_line(true, b"ack=", counts.ack);
-    let b = print_line(a, b"nak=", counts.nak);
-    let c = print_line(b, b"can=", counts.can);
-    let d = print_line(c, b"frames=", counts.frames);
-    let e = print_line(d, b"badsum=", counts.badsum);
-    let f = print_line(e, b"badlen=", counts.badlen);
-    let g = print_line(f, b"reserved=", counts.reserved);
-    let h = print_line(g, b"skipped=", counts.skipped);
+    let a = print_line(rt, true, b"ack=", counts.ack);
+    let b = print_line(rt, a, b"nak=", counts.nak);
+    let c = print_line(rt, b, b"can=", counts.can);
+    let d = print_line(rt, c, b"frames=", counts.frames);
+    let e = print_line(rt, d, b"badsum=", counts.badsum);
+    let f = print_line(rt, e, b"badlen=", counts.badlen);
+    let g = print_line(rt, f, b"reserved=", counts.reserved);
+    let h = print_line(rt, g, b"skipped=", counts.skipped);
     let hearing = tally.hearing;
-    let i = print_line(h, b"open=", tally::open_bytes(hearing));
-    if !print_line(i, b"cut=", cut) {
-        complain(b"linecount: standard output can't be written\n");
+    let i = print_line(rt, h, b"open=", tally::open_bytes(hearing));
+    if !print_line(rt, i, b"cut=", cut) {
+        complain(rt, "linecount: standard output can't be written");
     }
 }
 
 // Only a byte behind the last that is counted shows that input remained unread.
-fn print_most(buf: &mut [u8], tally: Tally) {
-    let got = read_some(buf, 1);
+fn print_most(rt: &(impl Print + Eprint), input: &mut impl Read, buf: &mut [u8], tally: Tally) {
+    let got = read_some(input, buf, 1);
     match got {
-        Got::Bytes(_) => print(tally, 1),
-        Got::End => print(tally, 0),
-        Got::Failed => complain(b"linecount: standard input can't be read\n"),
+        Got::Bytes(_) => print(rt, tally, 1),
+        Got::End => print(rt, tally, 0),
+        Got::Failed => complain(rt, "linecount: standard input can't be read"),
     }
 }
 
-fn main() {
-    let mut buf = io::large_buffer();
-    let seen = count_input(&mut buf);
+fn main(rt: HostRuntime) {
+    let mut buf = [0u8; PART];
+    let mut input = rt.reader();
+    let seen = count_input(&mut input, &mut buf);
     match seen {
-        Seen::All(tally) => print(tally, 0),
-        Seen::Most(tally) => print_most(&mut buf, tally),
-        Seen::Failed => complain(b"linecount: standard input can't be read\n"),
+        Seen::All(tally) => print(&rt, tally, 0),
+        Seen::Most(tally) => print_most(&rt, &mut input, &mut buf, tally),
+        Seen::Failed => complain(&rt, "linecount: standard input can't be read"),
     }
 }

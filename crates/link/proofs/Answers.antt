@@ -1,7 +1,7 @@
 -- Section 3: what each link call tells, with the numbers of its refusals in the order of its checks, or 0 and its report.
---     call-told                                     by the checks of any call's own
---     send-told, session-told                       1, 2, 3, 4 and 1, 2, 4
---     byte-told, tick-told, restart-told, run_told_lem  1
+--     call_told                                     by the checks of any call's own
+--     send_told, session_told                       1, 2, 3, 4 and 1, 2, 4
+--     byte_told, tick_told, restart_told, run_told_lem  1
 -- Assumes nothing.
 use mathlib.Core.Path.{◌≡◌, refl, ap, ◌∙◌}
 use mathlib.Core.List.{List, [], ◌∷◌, ◌++◌}
@@ -35,14 +35,14 @@ own_told (Refuses k) o l = refl
 
 module _ {o : Out} {l : Link} {line up : List ℕ} {r : Answered} {line' up' : List ℕ} where
   -- ROOM first, then the call's own checks
-  pub call-told : {own : Checked} → CallPromise own o l line up r line' up'
+  pub call_told : {own : Checked} → CallPromise own o l line up r line' up'
       → answer_told r.answer ≡ pick (lacks_room (length line) (length up)) (1 ∷ []) (checked_told own (0 ∷ report_told (out_report o)))
-  call-told {own} c =
+  call_told {own} c =
       ap (λ (a : Answered). answer_told a.answer) c.answer
       ∙ through_by (λ (k : Checked). answer_told (answered k o l).answer) (lacks_room (length line) (length up)) refl (own_told own o l)
 
 module _ {l : Link} {line up : List ℕ} {r : Answered} {line' up' : List ℕ} where
-  pub send-told : (kind command : ℕ) (ps : List ℕ)
+  pub send_told : (kind command : ℕ) (ps : List ℕ)
       → CallPromise (send_own l.core.job kind (length ps)) (open_out l Plain (frame_of kind command ps)) l line up r line' up'
       → answer_told r.answer
       ≡ pick (lacks_room (length line) (length up)) (1 ∷ [])
@@ -50,42 +50,42 @@ module _ {l : Link} {line up : List ℕ} {r : Answered} {line' up' : List ℕ} w
       (pick (ltb 1 kind) (3 ∷ [])
       (pick (ltb 252 (length ps)) (4 ∷ [])
       (0 ∷ report_told (out_report (open_out l Plain (frame_of kind command ps)))))))
-  send-told kind command ps c =
+  send_told kind command ps c =
       let told = done (open_out l Plain (frame_of kind command ps)) in
       let f : Checked → List ℕ = λ (k : Checked). checked_told k told in
-      call-told c
+      call_told c
       ∙ ap (pick (lacks_room (length line) (length up)) (1 ∷ []))
       (through_by f (is_open l.core.job) refl
       (through_by f (ltb 1 kind) refl
       (through_by f (ltb 252 (length ps)) refl refl)))
 
   -- which is always REQ
-  pub session-told : (command : ℕ) (ps : List ℕ)
+  pub session_told : (command : ℕ) (ps : List ℕ)
       → CallPromise (session_own l.core.job (length ps)) (open_out l (Asks command) (frame_of 0 command ps)) l line up r line' up'
       → answer_told r.answer
       ≡ pick (lacks_room (length line) (length up)) (1 ∷ [])
       (pick (is_open l.core.job) (2 ∷ [])
       (pick (ltb 252 (length ps)) (4 ∷ [])
       (0 ∷ report_told (out_report (open_out l (Asks command) (frame_of 0 command ps))))))
-  session-told command ps c =
+  session_told command ps c =
       let told = done (open_out l (Asks command) (frame_of 0 command ps)) in
       let f : Checked → List ℕ = λ (k : Checked). checked_told k told in
-      call-told c
+      call_told c
       ∙ ap (pick (lacks_room (length line) (length up)) (1 ∷ []))
       (through_by f (is_open l.core.job) refl
       (through_by f (ltb 252 (length ps)) refl refl))
 
-  pub byte-told : (b : ℕ) → CallPromise Passes (byte_out (rules_of l.core.choice) l b) l line up r line' up'
+  pub byte_told : (b : ℕ) → CallPromise Passes (byte_out (rules_of l.core.choice) l b) l line up r line' up'
       → answer_told r.answer ≡ pick (lacks_room (length line) (length up)) (1 ∷ []) (0 ∷ report_told (out_report (byte_out (rules_of l.core.choice) l b)))
-  byte-told b c = call-told c
+  byte_told b c = call_told c
 
-  pub tick-told : CallPromise Passes (tick_out (rules_of l.core.choice) l) l line up r line' up'
+  pub tick_told : CallPromise Passes (tick_out (rules_of l.core.choice) l) l line up r line' up'
       → answer_told r.answer ≡ pick (lacks_room (length line) (length up)) (1 ∷ []) (0 ∷ report_told (out_report (tick_out (rules_of l.core.choice) l)))
-  tick-told c = call-told c
+  tick_told c = call_told c
 
-  pub restart-told : CallPromise Passes (restart_out l) l line up r line' up'
+  pub restart_told : CallPromise Passes (restart_out l) l line up r line' up'
       → answer_told r.answer ≡ pick (lacks_room (length line) (length up)) (1 ∷ []) (0 ∷ report_told (out_report (restart_out l)))
-  restart-told c = call-told c
+  restart_told c = call_told c
 
 -- a run of bytes also tells how many were taken
 pub run_told_lem : {l : Link} (bytes : List ℕ) {line up : List ℕ} {r : Ran} {line' up' : List ℕ} → RunPromise (run_out (rules_of l.core.choice) l bytes) l line up r line' up'

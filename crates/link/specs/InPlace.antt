@@ -1,7 +1,7 @@
 -- Section 3, link calls in place: the caller keeps a link's parts, and a call promises what the call on the link of these parts does.
 -- Assumes nothing.
 use Rattle.std.specs.Prelude.{ℕ, List}
-use Rattle.step.specs.declared.core.Core.{Core}
+use Rattle.step.specs.declared.numbers.Core.{Core}
 use Rattle.link.specs.declared.link.Link.{Link}
 use Rattle.link.specs.declared.calls.Answered.{Answered}
 use Rattle.link.specs.declared.calls.Ran.{Ran}

@@ -23,7 +23,7 @@ use Rattle.report.specs.declared.Report.{Report}
 use Rattle.link.specs.declared.link.Link.{Link}
 use Rattle.step.specs.declared.deciding.Outcome.{Outcome}
 use Rattle.step.specs.Deciding.{decide, acted, opening, restarting}
-use Rattle.step.specs.declared.core.Core.{Core}
+use Rattle.step.specs.declared.numbers.Core.{Core}
 
 -- what an accepted call gives: the next link, the four parts, the bytes for the line and those handed up
 pub record Out : Type 0 where

@@ -27,13 +27,13 @@ use step::{
 };
 
 // The numbers of the next link beside the answer; with a refusal, unchanged.
-#[derive(Drop)]
+#[derive(Clone, Copy)]
 pub struct AnsweredIn {
     pub core: Core,
     pub answer: Answer,
 }
 
-#[derive(Drop)]
+#[derive(Clone, Copy)]
 pub struct RanIn {
     pub core: Core,
     pub answer: RunAnswer,

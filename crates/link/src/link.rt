@@ -11,7 +11,7 @@ use step::Core;
 use units::Millis;
 
 // A link comes only from opening or an earlier call: no other crate can make one.
-#[derive(Drop)]
+#[derive(Clone, Copy)]
 pub struct Link {
     pub(crate) core: Core,
     // The body of the half-received frame, and the frame being sent.
@@ -20,7 +20,7 @@ pub struct Link {
 }
 
 // The protocol's timings, together.
-#[derive(Drop)]
+#[derive(Clone, Copy)]
 pub struct Timings {
     pub frame_time: Millis,
     pub ack_wait: Millis,

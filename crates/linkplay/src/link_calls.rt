@@ -9,7 +9,7 @@ use refusals::Refusal;
 use script::{put_end, say};
 
 // An end of a play.
-#[derive(Drop)]
+#[derive(Clone, Copy)]
 pub struct End {
     pub link: Link,
     // The ticks accepted since opening.
@@ -17,7 +17,7 @@ pub struct End {
 }
 
 // The calls that an order asks of an end, as far as they are made.
-#[derive(Drop)]
+#[derive(Clone, Copy)]
 pub struct Turn {
     pub end: End,
     // What the end has put out since the last pass.
@@ -36,7 +36,7 @@ const DONE: u64 = 1;
 const RAN: u64 = 2;
 
 // What a call answered, in numbers.
-#[derive(Drop)]
+#[derive(Clone, Copy)]
 struct Told {
     // REFUSED, DONE or RAN, and with it the refusal's number, 0, or how many bytes the run took.
     pub kind: u64,
@@ -46,7 +46,7 @@ struct Told {
 }
 
 // A call's answer, and the link that it left.
-#[derive(Drop)]
+#[derive(Clone, Copy)]
 struct Called {
     pub link: Link,
     pub told: Told,
@@ -125,7 +125,7 @@ fn ticks_with(verb: LinkVerb, kind: u64, ticks: u64) -> u64 {
         return ticks;
     }
     if is_tick(verb) {
-        return std::num::wrapping_add_u64(ticks, 1);
+        return ticks.wrapping_add(1);
     }
     ticks
 }
@@ -153,12 +153,20 @@ fn has_line(verb: LinkVerb, told: Told, spilled: bool) -> bool {
 }
 
 // The parts of a report that was made.
-fn put_report(told: Told, line: &[u8], up: &[u8], out: &mut [u8], waiting: usize) -> usize {
+fn put_report(
+    rt: &impl Print,
+    told: Told,
+    line: &[u8],
+    up: &[u8],
+    out: &mut [u8],
+    waiting: usize,
+) -> usize {
     if told.kind == REFUSED {
         return waiting;
     }
     let report = told.report;
     say(
+        rt,
         b" rx={nothing,skipped,badlen,frame,reserved,badsum,abort,strayresponse,cancelled}\
         \x20tx=(nothing,stray,due,copy:,backoff:,acked:,failed:,abandoned)\
         \x20session=(nothing,waiting,response:,noresponse:,notsent:,abandoned)\
@@ -185,6 +193,7 @@ fn name_of(verb: LinkVerb) -> u64 {
 
 // The end and the name of the call, when it was, and what it answered.
 fn put_line(
+    rt: &impl Print,
     place: usize,
     verb: LinkVerb,
     ticks: u64,
@@ -205,6 +214,7 @@ fn put_line(
         0,
     ];
     let w = say(
+        rt,
         b"{,module }{send,session,byte,bytes,tick,restart} at=#{ refused=#,, taken=#}",
         values,
         line,
@@ -212,11 +222,12 @@ fn put_line(
         out,
         waiting,
     );
-    put_report(told, line, up, out, w)
+    put_report(rt, told, line, up, out, w)
 }
 
 // The call's line of output, where it has one. The lent buffers are again as they were before the call.
 fn tell(
+    rt: &impl Print,
     place: usize,
     verb: LinkVerb,
     ticks: u64,
@@ -233,10 +244,10 @@ fn tell(
     if !has_line(verb, told, spilled) {
         return waiting;
     }
-    let w = put_line(place, verb, ticks, told, line, up, out, waiting);
+    let w = put_line(rt, place, verb, ticks, told, line, up, out, waiting);
     restore(line, n);
     restore(up, k);
-    put_end(spilled, out, w)
+    put_end(rt, spilled, out, w)
 }
 
 // How many bytes a run took.
@@ -274,6 +285,7 @@ fn pending_with(pending: Pending, told: Told, line: &[u8], kept: &mut [u8]) -> P
 
 // One call with its line of output. A run has the bytes that were not taken yet.
 fn play_once(
+    rt: &impl Print,
     place: usize,
     verb: LinkVerb,
     bytes: &[u8],
@@ -293,8 +305,18 @@ fn play_once(
     Turn {
         end: next,
         pending: pending_with(pending, told, line, kept),
-        waiting: tell(place, verb, next.ticks, told, line, up, out, turn.waiting),
-        taken: std::num::wrapping_add_u64(turn.taken, taken_by(told)),
+        waiting: tell(
+            rt,
+            place,
+            verb,
+            next.ticks,
+            told,
+            line,
+            up,
+            out,
+            turn.waiting,
+        ),
+        taken: turn.taken.wrapping_add(taken_by(told)),
         is_over: is_last(told, rest),
     }
 }
@@ -314,6 +336,7 @@ fn further(left: usize, is_over: bool) -> usize
 
 // The calls that an order asks for, at most so many.
 fn play_all(
+    rt: &impl Print,
     place: usize,
     verb: LinkVerb,
     times: usize,
@@ -327,7 +350,7 @@ fn play_all(
     let mut next = turn;
     let mut left = times;
     while 0 < left {
-        next = play_once(place, verb, bytes, next, line, up, kept, out);
+        next = play_once(rt, place, verb, bytes, next, line, up, kept, out);
         left = further(left, next.is_over);
     }
     next
@@ -335,6 +358,7 @@ fn play_all(
 
 // The same, each call lent so much of two buffers.
 pub fn on_end(
+    rt: &impl Print,
     place: usize,
     verb: LinkVerb,
     times: usize,
@@ -352,6 +376,7 @@ pub fn on_end(
     let n = within(line_room, &line);
     let k = within(up_room, &up);
     play_all(
+        rt,
         place,
         verb,
         times,

@@ -4,11 +4,11 @@ ghost use Rattle.std.specs.Prelude.{◌<◌, ◌≤◌, length};
 use crate::link_calls::{End, Turn, on_end};
 use crate::verbs::{Opening, Verb, asked_of, on_line, verb_of};
 use frame::{LINE_ROOM, MAX_BODY, lay};
-use libc::{STDERR_FILENO, STDIN_FILENO};
 use link::Link;
 use orders::{LinkVerb, Pending, behind, call_at, times_of, within};
 use rules::{Choice, Mode, Role};
 use script::{Order, flush, is_broken, keep, on_other, order_of, put_end, say};
+use std::io::Read;
 
 // The places of the two ends.
 pub const HOST: usize = 0;
@@ -20,8 +20,14 @@ const KEPT_OF_ONE: usize = 1024;
 
 pub const KEPT: usize = 2048;
 
+// So many bytes are read at once, and so many wait before they are written.
+pub const PART: usize = 65536;
+
+// So many bytes of a line are kept.
+pub const TEXT: usize = 4096;
+
 // What lasts from call to call.
-#[derive(Drop)]
+#[derive(Clone, Copy)]
 pub struct Player {
     // The host and the stand-in.
     pub ends: [End; 2],
@@ -110,6 +116,7 @@ fn opened_anew(place: usize, opening: Opening, player: Player) -> Player
 
 // The calls that an order asks of an end, at most so many.
 fn on_link(
+    rt: &impl Print,
     place: usize,
     verb: LinkVerb,
     times: usize,
@@ -122,16 +129,15 @@ fn on_link(
 {
     let from = within(place * KEPT_OF_ONE, kept);
     let to = within(from + KEPT_OF_ONE, kept);
-    let end = player.ends[place];
-    let pending = player.pending[place];
     let turn = Turn {
-        end: end,
-        pending: pending,
+        end: player.ends[place],
+        pending: player.pending[place],
         waiting: player.waiting,
         taken: 0,
         is_over: false,
     };
     let done = on_end(
+        rt,
         place,
         verb,
         times,
@@ -142,22 +148,20 @@ fn on_link(
         &mut kept[from..to],
         out,
     );
-    let end = done.end;
-    let pending = done.pending;
     let mut next = player;
-    next.ends[place] = end;
-    next.pending[place] = pending;
+    next.ends[place] = done.end;
+    next.pending[place] = done.pending;
     next.waiting = done.waiting;
     next
 }
 
 // Says whether something was lost of what was put out.
-fn put_lost(pending: [Pending; 2], out: &mut [u8], waiting: usize) -> usize {
+fn put_lost(rt: &impl Print, pending: [Pending; 2], out: &mut [u8], waiting: usize) -> usize {
     let host = pending[HOST];
     let module = pending[MODULE];
     if host.is_lost || module.is_lost {
-        let w = say(b"pass lost", [0; 8], b"", b"", out, waiting);
-        return put_end(false, out, w);
+        let w = say(rt, b"pass lost", [0; 8], b"", b"", out, waiting);
+        return put_end(rt, false, out, w);
     }
     waiting
 }
@@ -171,7 +175,7 @@ fn take(pending: Pending, kept: &[u8], given: &mut [u8]) -> usize
 }
 
 // Gives each end what the other had put out: first the host's bytes to the stand-in, then those of the stand-in. Each run takes at least one byte.
-fn pass(player: Player, kept: &mut [u8], out: &mut [u8]) -> Player {
+fn pass(rt: &impl Print, player: Player, kept: &mut [u8], out: &mut [u8]) -> Player {
     let mut asked = [0u8; KEPT_OF_ONE];
     let mut answered = [0u8; KEPT_OF_ONE];
     let pending = player.pending;
@@ -180,13 +184,32 @@ fn pass(player: Player, kept: &mut [u8], out: &mut [u8]) -> Player {
     let nothing = nothing_put_out();
     let mut next = player;
     next.pending = [nothing; 2];
-    next.waiting = put_lost(pending, out, player.waiting);
-    next = on_link(MODULE, LinkVerb::Bytes, n, &asked[0..n], next, kept, out);
-    on_link(HOST, LinkVerb::Bytes, k, &answered[0..k], next, kept, out)
+    next.waiting = put_lost(rt, pending, out, player.waiting);
+    next = on_link(
+        rt,
+        MODULE,
+        LinkVerb::Bytes,
+        n,
+        &asked[0..n],
+        next,
+        kept,
+        out,
+    );
+    on_link(
+        rt,
+        HOST,
+        LinkVerb::Bytes,
+        k,
+        &answered[0..k],
+        next,
+        kept,
+        out,
+    )
 }
 
 // Carries out what a line asks of an end.
 fn carry(
+    rt: &impl Print,
     verbs: &[u8],
     place: usize,
     order: Order,
@@ -200,13 +223,13 @@ fn carry(
     let verb = verb_of(order.call);
     if let Verb::Link(call) = verb {
         let times = times_of(call, order.number) as usize;
-        return on_link(place, call, times, bytes, player, kept, out);
+        return on_link(rt, place, call, times, bytes, player, kept, out);
     }
     if let Verb::Open(opening) = verb {
         return opened_anew(place, opening, player);
     }
     if let Verb::Pass = verb {
-        return pass(player, kept, out);
+        return pass(rt, player, kept, out);
     }
     let mut next = player;
     match verb {
@@ -215,7 +238,7 @@ fn carry(
             next.up = order.number as usize;
         }
         Verb::Other => {
-            next.waiting = on_other(verbs, order, bytes, out, player.waiting);
+            next.waiting = on_other(rt, verbs, order, bytes, out, player.waiting);
         }
         Verb::Link(_) | Verb::Open(_) | Verb::Pass | Verb::Blank => {}
     }
@@ -234,6 +257,7 @@ fn place_of(from: usize) -> usize
 
 // One line of the script, of n bytes, by the table of verbs.
 pub fn by_table(
+    rt: &impl Print,
     verbs: &[u8],
     text: &mut [u8],
     n: usize,
@@ -246,11 +270,12 @@ pub fn by_table(
     let order = asked_of(place, order_of(verbs, &mut text[from..], n - from));
     let rest = behind(text, from);
     let count = within(order.count, rest);
-    carry(verbs, place, order, &rest[0..count], player, kept, out)
+    carry(rt, verbs, place, order, &rest[0..count], player, kept, out)
 }
 
 // A part of the script, which may begin and end inside a line.
 fn on_part(
+    rt: &impl Print,
     part: &[u8],
     player: Player,
     text: &mut [u8],
@@ -264,7 +289,7 @@ fn on_part(
         let b = part[i];
         i += 1;
         if b == b'\n' {
-            next = on_line(text, n, next, kept, out);
+            next = on_line(rt, text, n, next, kept, out);
             n = 0;
         } else {
             n = keep(b, text, n);
@@ -274,15 +299,16 @@ fn on_part(
     next
 }
 
-fn complain(is_cause: bool, sentence: &[u8]) {
+// Says what failed. Where even that can't be written there is nowhere left to say it.
+fn complain(rt: &impl Eprint, is_cause: bool, sentence: &str) {
     if is_cause {
-        io::write_all(STDERR_FILENO, sentence);
+        let _ = rt.eprintln(sentence);
     }
 }
 
 // The script is over: it ended, or a read failed.
-fn ended(player: Player, is_failed: bool) -> Player {
-    complain(is_failed, b"linkplay: standard input can't be read\n");
+fn ended(rt: &impl Eprint, player: Player, is_failed: bool) -> Player {
+    complain(rt, is_failed, "linkplay: standard input can't be read");
     let mut over = player;
     over.is_over = true;
     if is_failed {
@@ -292,36 +318,52 @@ fn ended(player: Player, is_failed: bool) -> Player {
 }
 
 // Reads on in the script, plays what came, and writes what it gave, so that who holds a conversation has the answer before the next line is sent. Where a read fails, a line that has not ended is not played: its end is not known.
-fn on_read(player: Player, text: &mut [u8], kept: &mut [u8], out: &mut [u8]) -> Player {
-    let mut script = io::large_buffer();
-    let got = libc::read(STDIN_FILENO, &mut script);
-    if got <= 0 {
-        return ended(player, got < 0);
+fn on_read(
+    rt: &(impl Print + Eprint),
+    input: &mut impl Read,
+    player: Player,
+    text: &mut [u8],
+    kept: &mut [u8],
+    out: &mut [u8],
+) -> Player {
+    let mut script = [0u8; PART];
+    let Ok(n) = input.read(&mut script) else {
+        return ended(rt, player, true);
+    };
+    if n == 0 {
+        return ended(rt, player, false);
     }
-    let n = io::count(got, &script);
-    let mut next = on_part(&script[0..n], player, text, kept, out);
-    next.waiting = flush(out, next.waiting);
+    let mut next = on_part(rt, &script[0..n], player, text, kept, out);
+    next.waiting = flush(rt, out, next.waiting);
     next.is_over = is_broken(next.waiting);
     next
 }
 
 // The last line, which may have no newline.
-fn finish(player: Player, text: &mut [u8], kept: &mut [u8], out: &mut [u8]) {
-    let last = on_line(text, player.begun, player, kept, out);
-    let waiting = flush(out, last.waiting);
+fn finish(
+    rt: &(impl Print + Eprint),
+    player: Player,
+    text: &mut [u8],
+    kept: &mut [u8],
+    out: &mut [u8],
+) {
+    let last = on_line(rt, text, player.begun, player, kept, out);
+    let waiting = flush(rt, out, last.waiting);
     complain(
+        rt,
         is_broken(waiting),
-        b"linkplay: standard output can't be written\n",
+        "linkplay: standard output can't be written",
     );
 }
 
 // Plays the script on standard input. A proved loop has to end, and nothing says that the input does: it counts its turns down, from a number that no run uses up.
-pub fn play(text: &mut [u8], kept: &mut [u8], out: &mut [u8]) {
+pub fn play(rt: &(impl Print + Eprint + Input), text: &mut [u8], kept: &mut [u8], out: &mut [u8]) {
+    let mut input = rt.reader();
     let mut player = opened();
     let mut turns = u64::MAX;
     while turns > 0 && !player.is_over {
-        player = on_read(player, text, kept, out);
+        player = on_read(rt, &mut input, player, text, kept, out);
         turns -= 1;
     }
-    finish(player, text, kept, out);
+    finish(rt, player, text, kept, out);
 }

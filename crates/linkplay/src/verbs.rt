@@ -4,7 +4,7 @@ use orders::LinkVerb;
 use script::Order;
 
 // How an end is opened: without a choice, or with a mode named.
-#[derive(Drop)]
+#[derive(Clone, Copy)]
 pub enum Opening {
     Unsaid,
     Sooner,
@@ -12,7 +12,7 @@ pub enum Opening {
 }
 
 // Who carries an order out.
-#[derive(Drop)]
+#[derive(Clone, Copy)]
 pub enum Verb {
     Link(LinkVerb),
     // A fresh link for an end.
@@ -58,6 +58,7 @@ pub fn asked_of(place: usize, order: Order) -> Order {
 
 // One line of the script, of n bytes.
 pub fn on_line(
+    rt: &impl Print,
     text: &mut [u8],
     n: usize,
     player: Player,
@@ -65,6 +66,7 @@ pub fn on_line(
     out: &mut [u8],
 ) -> Player {
     by_table(
+        rt,
         b"error\n\
         send S 0 bb* .\n\
         session Q 0 b* .\n\

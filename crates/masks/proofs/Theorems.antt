@@ -1,9 +1,9 @@
 -- What the promises of this crate determine, and what holds of every body that is written, over all inputs (documents 01, sections 3, 8 and 12; 02, P5).
 --     is_response_determined, is_marked_determined, write_determined    each promise fixes its answer and every lent byte
 --     write_told         section 3's number of each refusal alone; of a body 0 and its length
---     write-room         ROOM before FORM, whatever the body
---     write-taken, write-refused    with room the reader decides; a refusal leaves all
---     refuses-alike      with room every refusal is the reader's FORM
+--     write_room         ROOM before FORM, whatever the body
+--     write_taken, write_refused    with room the reader decides; a refusal leaves all
+--     refuses_alike      with room every refusal is the reader's FORM
 --     written_stands     a body that is written stands in the first bytes, of as many as it has, and the bytes beyond stay
 -- Assumes nothing.
 use mathlib.Core.Path.{◌≡◌, refl, sym, ap, ◌∙◌}
@@ -50,23 +50,23 @@ module _ {reads : Bool} {body lent : List ℕ} {r : Written} {lent' : List ℕ} 
   met : {a : Written} → written_of reads (length body) (length lent) ≡ a → (r ≡ a) × (lent' ≡ body_left a body lent)
   met e = (w.answer ∙ e, w.left ∙ ap (λ (a : Written). body_left a body lent) e)
 
-  pub write-room : length lent < 254 → (r ≡ Refused refusal.Room) × (lent' ≡ lent)
-  write-room h = met (rw (lt-ltb (length lent) 254 h))
+  pub write_room : length lent < 254 → (r ≡ Refused refusal.Room) × (lent' ≡ lent)
+  write_room h = met (rw (lt-ltb (length lent) 254 h))
 
-  pub write-taken : 254 ≤ length lent → reads ≡ true → (r ≡ Body (length body)) × (lent' ≡ over body lent)
-  write-taken h e = met (rw (le-ltb (length lent) 254 h, e))
+  pub write_taken : 254 ≤ length lent → reads ≡ true → (r ≡ Body (length body)) × (lent' ≡ over body lent)
+  write_taken h e = met (rw (le-ltb (length lent) 254 h, e))
 
-  pub write-refused : 254 ≤ length lent → reads ≡ false → (r ≡ Refused refusal.Form) × (lent' ≡ lent)
-  write-refused h e = met (rw (le-ltb (length lent) 254 h, e))
+  pub write_refused : 254 ≤ length lent → reads ≡ false → (r ≡ Refused refusal.Form) × (lent' ≡ lent)
+  write_refused h e = met (rw (le-ltb (length lent) 254 h, e))
 
-  alike-by : (t : Bool) (k : Refusal) → (pick t (Body (length body)) (Refused refusal.Form) ≡ Refused k) ↔ ((t ≡ false) × (k ≡ refusal.Form))
-  alike-by true k = (λ e. let z : ◌≡◌ {A = ℕ} 0 1 = cc in absurd (omega arith), λ e. let z : ◌≡◌ {A = ℕ} 0 1 = cc in absurd (omega arith))
-  alike-by false k = (λ e. (refl, cc), λ e. ap Refused (sym e.1))
+  alike_by : (t : Bool) (k : Refusal) → (pick t (Body (length body)) (Refused refusal.Form) ≡ Refused k) ↔ ((t ≡ false) × (k ≡ refusal.Form))
+  alike_by true k = (λ e. let z : ◌≡◌ {A = ℕ} 0 1 = cc in absurd (omega arith), λ e. let z : ◌≡◌ {A = ℕ} 0 1 = cc in absurd (omega arith))
+  alike_by false k = (λ e. (refl, cc), λ e. ap Refused (sym e.1))
 
-  pub refuses-alike : 254 ≤ length lent → (k : Refusal) → (r ≡ Refused k) ↔ ((reads ≡ false) × (k ≡ refusal.Form))
-  refuses-alike h k =
+  pub refuses_alike : 254 ≤ length lent → (k : Refusal) → (r ≡ Refused k) ↔ ((reads ≡ false) × (k ≡ refusal.Form))
+  refuses_alike h k =
       let same : r ≡ pick reads (Body (length body)) (Refused refusal.Form) = w.answer ∙ rw (le-ltb (length lent) 254 h) in
-      (λ e. (alike-by reads k).0 (sym same ∙ e), λ e. same ∙ (alike-by reads k).1 e)
+      (λ e. (alike_by reads k).0 (sym same ∙ e), λ e. same ∙ (alike_by reads k).1 e)
 
 not_refused : {k : Refusal} {n : ℕ} → Refused k ≡ Body n → ⊥
 not_refused e = let z : ◌≡◌ {A = ℕ} 0 1 = cc in omega arith
@@ -84,7 +84,7 @@ written_stands {reads} {body} {lent} {n} {lent'} w =
     let enough = picked_second (ltb (length lent) 254) not_refused (sym w.answer) in
     let yes = picked_first reads not_refused enough.1 in
     let size : length body ≡ n = cc in
-    let left : lent' ≡ over body lent = (write-taken w (ltb-false (length lent) 254 enough.0) yes.0).1 in
+    let left : lent' ≡ over body lent = (write_taken w (ltb-false (length lent) 254 enough.0) yes.0).1 in
     record {
       room = ltb-false (length lent) 254 enough.0;
       taken = yes.0;

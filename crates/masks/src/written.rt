@@ -5,7 +5,7 @@ ghost use Rattle.masks.specs.Promises.{carried};
 use frame::{MAX_BODY, lay};
 use refusals::Refusal;
 
-#[derive(Drop)]
+#[derive(Clone, Copy)]
 pub enum Written {
     Refused(Refusal),
     // The body's length: it stands in the first bytes of the lent buffer.

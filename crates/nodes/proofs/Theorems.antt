@@ -3,7 +3,7 @@
 --     nodes_exactly, nodes_rising, nodes_none, nodes_most, nodes_written, nodes_room    what is listed, and where
 --     nodes_told_lem, write_nodes_told    section 3's numbers
 --     nodes_example          the worked example
---     node-mask-taken        which masks are written; node-mask-other, node-mask-of-29, no-node-mask: the edges
+--     node_mask_taken        which masks are written; node_mask_other, node_mask_of_29, no_node_mask: the edges
 --     nodes_alike            with room the writer refuses what the reader refuses, and by the same refusal
 --     nodes_back             what was written reads back as the same values; nodes_listed: by the reader's promise
 -- Assumes nothing.
@@ -33,7 +33,7 @@ use Rattle.nodes.specs.declared.NodeList.{NodeList}
 use Rattle.nodes.specs.declared.NodeList.TheVariants as nodes
 use Rattle.nodes.proofs.Layouts.{node_list_yes}
 use Rattle.nodes.proofs.Writing.{body_length, odd_refused}
-use Rattle.masks.proofs.Theorems.{write_determined, write_told, write-taken, write-refused, refuses-alike, written_stands}
+use Rattle.masks.proofs.Theorems.{write_determined, write_told, write_taken, write_refused, refuses_alike, written_stands}
 use Rattle.masks.proofs.Marked.{marks_one, member_to, member_from, marked_rising, marked_none}
 use Rattle.masks.proofs.Masks.{marked_le}
 
@@ -109,23 +109,23 @@ module _ (version capabilities : ℕ) (mask : List ℕ) (chipType chipVersion : 
   whole = node_body version capabilities mask chipType chipVersion
 
   -- the body's own tests, but for those of its size and count byte, are met; the count byte is the number of mask bytes
-  taken-by : is_node_list whole ≡ pick (eqb (length whole) 36) (eqb (length mask) 29) (pick (eqb (length whole) 7) (eqb (length mask) 0) false)
+  taken_by_lem : is_node_list whole ≡ pick (eqb (length whole) 36) (eqb (length mask) 29) (pick (eqb (length whole) 7) (eqb (length mask) 0) false)
   unfolding node_body
-  taken-by =
+  taken_by_lem =
       let size = body_length version capabilities mask chipType chipVersion in
       ap
       (λ (t : Bool). pick (pick t false true) (pick (eqb (length whole) 36) (eqb (length mask) 29) (pick (eqb (length whole) 7) (eqb (length mask) 0) false)) false)
       (le-ltb (length whole) 2 (omega arith))
 
   -- 29 mask bytes, or none
-  pub node-mask-taken : (is_node_list whole ≡ true) ↔ ((length mask ≡ 29) ⊎ (length mask ≡ 0))
-  node-mask-taken =
+  pub node_mask_taken : (is_node_list whole ≡ true) ↔ ((length mask ≡ 29) ⊎ (length mask ≡ 0))
+  node_mask_taken =
       let size = body_length version capabilities mask chipType chipVersion in
       let full : length mask ≡ 29 → is_node_list whole ≡ true = λ e.
-      taken-by ∙ rw (eq-eqb (length whole) 36 (omega arith)) (eq-eqb (length mask) 29 e) in
+      taken_by_lem ∙ rw (eq-eqb (length whole) 36 (omega arith)) (eq-eqb (length mask) 29 e) in
       let empty : length mask ≡ 0 → is_node_list whole ≡ true = λ e.
-      taken-by ∙ rw (ne_eqb (length whole) 36 (λ z. omega arith), eq-eqb (length whole) 7 (omega arith)) (eq-eqb (length mask) 0 e) in
-      (λ e. by (eqb (length whole) 36) (eqb (length whole) 7) (sym taken-by ∙ e), ⊎_elim full empty)
+      taken_by_lem ∙ rw (ne_eqb (length whole) 36 (λ z. omega arith), eq-eqb (length whole) 7 (omega arith)) (eq-eqb (length mask) 0 e) in
+      (λ e. by (eqb (length whole) 36) (eqb (length whole) 7) (sym taken_by_lem ∙ e), ⊎_elim full empty)
     where
       by : (t u : Bool) → pick t (eqb (length mask) 29) (pick u (eqb (length mask) 0) false) ≡ true → (length mask ≡ 29) ⊎ (length mask ≡ 0)
       by true u e = inl (eqb-true (length mask) 29 e)
@@ -134,22 +134,22 @@ module _ (version capabilities : ℕ) (mask : List ℕ) (chipType chipVersion : 
 
   module _ {lent : List ℕ} {r : Written} {lent' : List ℕ} (w : WriteNodes whole lent r lent') (room : 254 ≤ length lent) where
     -- neither 29 nor 0 mask bytes: FORM
-    pub node-mask-other : (length mask ≡ 29 → ⊥) → (length mask ≡ 0 → ⊥) → (r ≡ written.Refused refusal.Form) × (lent' ≡ lent)
-    node-mask-other full empty =
+    pub node_mask_other : (length mask ≡ 29 → ⊥) → (length mask ≡ 0 → ⊥) → (r ≡ written.Refused refusal.Form) × (lent' ≡ lent)
+    node_mask_other full empty =
         let size = body_length version capabilities mask chipType chipVersion in
-        write-refused w room (odd_refused whole (λ e. full (omega arith)) (λ e. empty (omega arith)))
+        write_refused w room (odd_refused whole (λ e. full (omega arith)) (λ e. empty (omega arith)))
 
     -- 29 are written, and none too
-    pub node-mask-of-29 : length mask ≡ 29 → (r ≡ written.Body 36) × (lent' ≡ over whole lent)
-    node-mask-of-29 e =
+    pub node_mask_of_29 : length mask ≡ 29 → (r ≡ written.Body 36) × (lent' ≡ over whole lent)
+    node_mask_of_29 e =
         let size = body_length version capabilities mask chipType chipVersion in
-        let stands = write-taken w room (node-mask-taken.1 (inl e)) in
+        let stands = write_taken w room (node_mask_taken.1 (inl e)) in
         (stands.0 ∙ ap (λ (n : ℕ). written.Body n) (omega arith), stands.1)
 
-    pub no-node-mask : length mask ≡ 0 → (r ≡ written.Body 7) × (lent' ≡ over whole lent)
-    no-node-mask e =
+    pub no_node_mask : length mask ≡ 0 → (r ≡ written.Body 7) × (lent' ≡ over whole lent)
+    no_node_mask e =
         let size = body_length version capabilities mask chipType chipVersion in
-        let stands = write-taken w room (node-mask-taken.1 (inr e)) in
+        let stands = write_taken w room (node_mask_taken.1 (inr e)) in
         (stands.0 ∙ ap (λ (n : ℕ). written.Body n) (omega arith), stands.1)
 
 -- with room for the list the reader refuses by FORM alone
@@ -167,8 +167,8 @@ reads_refused body room k h =
 pub nodes_alike : {body lent : List ℕ} {r : Written} {lent' : List ℕ} → WriteNodes body lent r lent' → 254 ≤ length lent
     → (list : ℕ) → 232 ≤ list → (k : Refusal) → (r ≡ written.Refused k) ↔ (node_list_of body list ≡ nodes.Refused k)
 nodes_alike {body} w room list h k = (
-  λ e. (reads_refused body list k h).1 ((refuses-alike w room k).0 e),
-  λ e. (refuses-alike w room k).1 ((reads_refused body list k h).0 e),
+  λ e. (reads_refused body list k h).1 ((refuses_alike w room k).0 e),
+  λ e. (refuses_alike w room k).1 ((reads_refused body list k h).0 e),
 )
 
 -- what was written for these values, read back into a list with room for 232
@@ -203,7 +203,7 @@ pub nodes_back : (version capabilities : ℕ) (mask : List ℕ) (chipType chipVe
 nodes_back version capabilities mask chipType chipVersion lent n lent' w =
     let body = node_body version capabilities mask chipType chipVersion in
     let stands = written_stands w in
-    let counts = (node-mask-taken version capabilities mask chipType chipVersion).0 stands.taken in
+    let counts = (node_mask_taken version capabilities mask chipType chipVersion).0 stands.taken in
     let size = body_length version capabilities mask chipType chipVersion in
     record {
       size = stands.size ∙ size;

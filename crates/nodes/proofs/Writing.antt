@@ -2,7 +2,7 @@
 --     body_length     7 bytes more than the mask has
 --     odd_refused     a body of neither 36 nor 7 bytes is of no layout
 --     made            the parts laid behind each other are the body, with the mask cut to what there is room for
---     made-written    so what is written of it is what is written of the whole
+--     made_written    so what is written of it is what is written of the whole
 -- Assumes nothing.
 use mathlib.Core.Path.{◌≡◌, refl, sym, ap, ap₂, ◌∙◌}
 use mathlib.Core.Bool.{Bool, true, false}
@@ -64,10 +64,10 @@ module _ (version capabilities : ℕ) (mask : List ℕ) (chipType chipVersion : 
       front_part ((front ++ take n mask) ++ end) zeros (7 + n) (omega (arith, length-append (take n mask) end)) two
       ∙ ap (λ (k : ℕ). 1 ∷ 2 ∷ version ∷ capabilities ∷ k ∷ (take n mask ++ end)) (sym count)
 
-  pub made-length : (d : List ℕ) → take (7 + n) d ≡ node_body version capabilities (take n mask) chipType chipVersion → 7 + n ≡ length (take (7 + n) d)
-  made-length d e = omega (arith, ap length e, body_length version capabilities (take n mask) chipType chipVersion, length-take-le n mask few.0)
+  pub made_length : (d : List ℕ) → take (7 + n) d ≡ node_body version capabilities (take n mask) chipType chipVersion → 7 + n ≡ length (take (7 + n) d)
+  made_length d e = omega (arith, ap length e, body_length version capabilities (take n mask) chipType chipVersion, length-take-le n mask few.0)
 
-  pub made-written : (lent : List ℕ) {body : List ℕ} {reads : Bool} {r : Written} {lent' : List ℕ}
+  pub made_written : (lent : List ℕ) {body : List ℕ} {reads : Bool} {r : Written} {lent' : List ℕ}
       → body ≡ node_body version capabilities (take n mask) chipType chipVersion
       → reads ≡ is_node_list body
       → Write (carried reads body) body lent r lent'
@@ -75,7 +75,7 @@ module _ (version capabilities : ℕ) (mask : List ℕ) (chipType chipVersion : 
       (is_node_list (node_body version capabilities mask chipType chipVersion))
       (node_body version capabilities mask chipType chipVersion)
       lent r lent'
-  made-written lent {body} e f w =
+  made_written lent {body} e f w =
       let body_of : List ℕ → List ℕ = λ (m : List ℕ). node_body version capabilities m chipType chipVersion in
       let size : length (body_of (take n mask)) ≡ 7 + n =
       body_length version capabilities (take n mask) chipType chipVersion ∙ ap (λ (k : ℕ). 7 + k) (length-take-le n mask few.0) in

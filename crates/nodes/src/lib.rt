@@ -1,4 +1,6 @@
 // Node list RES, command 02 (document 01, section 8; 002, 7.4): read, and written.
+#![tactic(auto)]
+
 mod writer;
 
 ghost use Rattle.std.specs.Prelude.{◌≡◌, ◌≤◌, length};
@@ -25,7 +27,7 @@ const LAST_NODE: u8 = 232;
 
 pub const LIST_ROOM: usize = 232;
 
-#[derive(Drop)]
+#[derive(Clone, Copy)]
 pub enum NodeList {
     Refused(Refusal),
     // The nodes are the first `count` bytes of the lent list.

@@ -1,6 +1,6 @@
 -- The two ends of a play: which of them a line asks, and what each has put out that the other was not given yet.
 -- Assumes nothing.
-use Rattle.std.specs.Prelude.{ℕ, ◌+◌, ◌≤◌, ◌≡◌, Bool, true, List, [], ◌∷◌, ◌⊎◌, take}
+use Rattle.std.specs.Prelude.{ℕ, ◌+◌, ◌≤◌, ◌≡◌, true, List, [], ◌∷◌, ◌⊎◌, take}
 use Rattle.std.proofs.Math.Seq.{paste}
 use Rattle.refusals.specs.Pick.{pick}
 use Rattle.frame.specs.Promises.{fits}

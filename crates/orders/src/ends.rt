@@ -23,7 +23,7 @@ pub fn call_at(text: &[u8], n: usize) -> usize
 }
 
 // What an end has put out since the last pass.
-#[derive(Drop)]
+#[derive(Clone, Copy)]
 pub struct Pending {
     // How many bytes are kept.
     pub count: usize,

@@ -1,4 +1,6 @@
 // What an order of a script is made of: the end that it asks, the link's verbs, the bytes of an order, and the buffers that its call is lent.
+#![tactic(auto)]
+
 mod bytes;
 mod ends;
 mod lent;

@@ -2,7 +2,7 @@
 ghost use Rattle.std.specs.Prelude.{◌≡◌};
 ghost use Rattle.orders.specs.Verb.{is_tick, times_of};
 
-#[derive(Drop)]
+#[derive(Clone, Copy)]
 pub enum LinkVerb {
     Send,
     Session,

@@ -6,7 +6,7 @@ ghost use Rattle.reading.specs.Reader as spec;
 use frame::{MIN_LENGTH, RES, SEED, START, fold};
 use refusals::Refusal;
 
-#[derive(Drop)]
+#[derive(Clone, Copy)]
 pub enum Reading {
     Refused(Refusal),
     // The parameters are the `count` bytes from the fifth on.

@@ -9,7 +9,7 @@ use report::Reception;
 use rules::{Role, is_module};
 
 // What the open send or session waits to receive, as far as reception has to know it.
-#[derive(Drop)]
+#[derive(Clone, Copy)]
 pub enum Awaited {
     Nothing,
     // The ACK of a copy.
@@ -19,7 +19,7 @@ pub enum Awaited {
 }
 
 // The single byte that a reception or a restart puts out, before any copy.
-#[derive(Drop)]
+#[derive(Clone, Copy)]
 pub enum Reply {
     Silent,
     Ack,
@@ -28,7 +28,7 @@ pub enum Reply {
 }
 
 // What reception has to say of an event.
-#[derive(Drop)]
+#[derive(Clone, Copy)]
 pub struct Said {
     pub reception: Reception,
     pub reply: Reply,

@@ -6,7 +6,7 @@ use hearing::{End, Event};
 use report::Reset;
 
 // The run of bad sums after an event, and the reset that it gives.
-#[derive(Drop)]
+#[derive(Clone, Copy)]
 pub struct Sums {
     pub bad: u8,
     pub reset: Reset,

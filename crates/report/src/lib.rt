@@ -1,11 +1,13 @@
 // The report (document 01, section 7): its types. One record of four parts, each a case with its own data, and beside them the
 // numbers of bytes. What each part says is decided where it happens, in `reception`, `job`, `sending` and `step`.
+#![tactic(auto)]
+
 mod told;
 
 pub use told::report_told;
 use units::Millis;
 
-#[derive(Drop)]
+#[derive(Clone, Copy)]
 pub enum Reception {
     Nothing,
     Skipped,
@@ -19,7 +21,7 @@ pub enum Reception {
     Cancelled,
 }
 
-#[derive(Drop)]
+#[derive(Clone, Copy)]
 pub enum Sending {
     Nothing,
     Stray,
@@ -33,7 +35,7 @@ pub enum Sending {
     Abandoned,
 }
 
-#[derive(Drop)]
+#[derive(Clone, Copy)]
 pub enum Session {
     Nothing,
     Waiting,
@@ -44,14 +46,14 @@ pub enum Session {
     Abandoned,
 }
 
-#[derive(Drop)]
+#[derive(Clone, Copy)]
 pub enum Reset {
     Nothing,
     Sums,
     Delivery,
 }
 
-#[derive(Drop)]
+#[derive(Clone, Copy)]
 pub struct Report {
     pub reception: Reception,
     pub sending: Sending,

@@ -1,5 +1,5 @@
 -- The turns of a run of bytes, each heard at once, are the bytes heard one by one.
---     hear-end, on_over, on_one   hearing at what is left of the bytes
+--     hear_end, on_over, on_one   hearing at what is left of the bytes
 --     noise_more                  a skipped byte more
 --     hunts_head                  noise, an 01 and its Length
 --     walks                       body bytes at once
@@ -37,14 +37,14 @@ module _ (f : Far) (i : ℕ) (bytes : List ℕ) where
   abbrev next : Heard
   next = hear_byte (get_or bytes i 0) f.heard.hearing
 
-  pub hear-end : length bytes ≤ i → hear_from f (drop i bytes) ≡ f
+  pub hear_end : length bytes ≤ i → hear_from f (drop i bytes) ≡ f
   unfolding hear_from
-  hear-end h = simp (drop_of_length-le bytes h)
+  hear_end h = simp (drop_of_length-le bytes h)
 
-  pub hear-more : i < length bytes → has_news next.event ≡ false
+  pub hear_more : i < length bytes → has_news next.event ≡ false
       → hear_from f (drop i bytes) ≡ hear_from (behind next f.body (get_or bytes i 0) f.taken) (drop (i + 1) bytes)
   unfolding hear_from
-  hear-more h e = rw (drop-cons bytes i 0 h) (simp (e, add-one))
+  hear_more h e = rw (drop-cons bytes i 0 h) (simp (e, add-one))
 
 -- the next byte
 pub on_one : (f : Far) (bytes : List ℕ) → f.taken < length bytes → has_news f.heard.event ≡ false
@@ -58,7 +58,7 @@ on_quiet f bytes e = simp e
 -- nothing is left to be heard
 over_by : (f : Far) (bytes : List ℕ) (x : Bool) → has_news f.heard.event ≡ x → (has_news f.heard.event ≡ false → f.taken ≡ length bytes) → on_from f bytes ≡ f
 over_by f bytes true q over = simp q
-over_by f bytes false q over = simp q (hear-end f f.taken bytes (omega (arith, over q)))
+over_by f bytes false q over = simp q (hear_end f f.taken bytes (omega (arith, over q)))
 
 pub on_over : (f : Far) (bytes : List ℕ) → (has_news f.heard.event ≡ false → f.taken ≡ length bytes) → on_from f bytes ≡ f
 on_over f bytes over = over_by f bytes (has_news f.heard.event) refl over
@@ -73,22 +73,22 @@ module _ where
   abbrev sign : Bool → Bool → Bool → Bool → Bool
   sign t1 t6 t21 t24 = pick t1 true (pick t6 true (pick t21 true t24))
 
-  apart-keeps : (t1 t6 t21 t24 : Bool) (b : ℕ) (body : List ℕ) → keep (apart t1 t6 t21 t24).event b body ≡ body
-  apart-keeps true t6 t21 t24 b body = refl
-  apart-keeps false true t21 t24 b body = refl
-  apart-keeps false false true t24 b body = refl
-  apart-keeps false false false true b body = refl
-  apart-keeps false false false false b body = refl
+  apart_keeps : (t1 t6 t21 t24 : Bool) (b : ℕ) (body : List ℕ) → keep (apart t1 t6 t21 t24).event b body ≡ body
+  apart_keeps true t6 t21 t24 b body = refl
+  apart_keeps false true t21 t24 b body = refl
+  apart_keeps false false true t24 b body = refl
+  apart_keeps false false false true b body = refl
+  apart_keeps false false false false b body = refl
 
-  apart-noise : (t1 t6 t21 t24 : Bool) → sign t1 t6 t21 t24 ≡ false → apart t1 t6 t21 t24 ≡ heard Hunting Skipped
-  apart-noise true t6 t21 t24 n = absurd (no n)
-  apart-noise false true t21 t24 n = absurd (no n)
-  apart-noise false false true t24 n = absurd (no n)
-  apart-noise false false false true n = absurd (no n)
-  apart-noise false false false false n = refl
+  apart_noise : (t1 t6 t21 t24 : Bool) → sign t1 t6 t21 t24 ≡ false → apart t1 t6 t21 t24 ≡ heard Hunting Skipped
+  apart_noise true t6 t21 t24 n = absurd (no n)
+  apart_noise false true t21 t24 n = absurd (no n)
+  apart_noise false false true t24 n = absurd (no n)
+  apart_noise false false false true n = absurd (no n)
+  apart_noise false false false false n = refl
 
 pub hunted_keeps : (b : ℕ) (body : List ℕ) → keep (hunted b).event b body ≡ body
-hunted_keeps b body = apart-keeps (eqb b 1) (eqb b 6) (eqb b 21) (eqb b 24) b body
+hunted_keeps b body = apart_keeps (eqb b 1) (eqb b 6) (eqb b 21) (eqb b 24) b body
 
 skip_quiet : (t : Bool) (e : Event) → has_news e ≡ false → has_news (pick t e Skipped) ≡ false
 skip_quiet true e h = h
@@ -98,8 +98,8 @@ skip_quiet false e h = refl
 pub noise_more : (bytes : List ℕ) (e : Event) (i n : ℕ) (body : List ℕ) → i ≤ n → n < length bytes → is_sign (get_or bytes n 0) ≡ false
     → hear_from (skipped e i n body) (drop n bytes) ≡ hear_from (skipped e i (n + 1) body) (drop (n + 1) bytes)
 noise_more bytes e i n body le h q =
-    let x : hunted (get_or bytes n 0) ≡ heard Hunting Skipped = apart-noise (eqb (get_or bytes n 0) 1) (eqb (get_or bytes n 0) 6) (eqb (get_or bytes n 0) 21) (eqb (get_or bytes n 0) 24) q in
-    hear-more (skipped e i n body) n bytes h (ap (λ (y : Heard). has_news y.event) x)
+    let x : hunted (get_or bytes n 0) ≡ heard Hunting Skipped = apart_noise (eqb (get_or bytes n 0) 1) (eqb (get_or bytes n 0) 6) (eqb (get_or bytes n 0) 21) (eqb (get_or bytes n 0) 24) q in
+    hear_more (skipped e i n body) n bytes h (ap (λ (y : Heard). has_news y.event) x)
     ∙ ap (λ (y : Heard). hear_from (behind y body (get_or bytes n 0) n) (drop (n + 1) bytes)) x
     ∙ simp (ne_eqb (n + 1) i (λ z. omega (arith, z)))
 
@@ -107,8 +107,8 @@ module _ (bytes : List ℕ) (r : Reach) (c : Quiet bytes r) (e : r.hearing ≡ H
   abbrev b₁ : ℕ
   b₁ = get_or bytes n 0
 
-  to-noise : on_from (far r body) bytes ≡ hear_from (skipped r.event r.taken n body) (drop n bytes)
-  to-noise =
+  to_noise : on_from (far r body) bytes ≡ hear_from (skipped r.event r.taken n body) (drop n bytes)
+  to_noise =
       on_quiet (far r body) bytes c.quiet
       ∙ ap (λ (h : Hearing). hear_from (record { heard = heard h r.event; body = body; taken = r.taken }) (drop r.taken bytes)) e
       ∙ (simp (eq-eqb r.taken r.taken refl) at (z.same r.event body))
@@ -117,36 +117,36 @@ module _ (bytes : List ℕ) (r : Reach) (c : Quiet bytes r) (e : r.hearing ≡ H
   still₁ = skip_quiet (eqb n r.taken) r.event c.quiet
 
   -- noise, and the byte that ends it
-  pub hunts-one : n < length bytes → {q : Reach} → q ≡ gone (hunted b₁) (n + 1) → Onward bytes r body q body
-  hunts-one h x =
+  pub hunts_one : n < length bytes → {q : Reach} → q ≡ gone (hunted b₁) (n + 1) → Onward bytes r body q body
+  hunts_one h x =
       let s =
-      to-noise
+      to_noise
       ∙ sym (on_quiet (skipped r.event r.taken n body) bytes still₁)
       ∙ on_one (skipped r.event r.taken n body) bytes h still₁
       ∙ ap (λ (l : List ℕ). on_from (record { heard = hunted b₁; body = l; taken = n + 1 }) bytes) (hunted_keeps b₁ body) in
       record { same = s ∙ ap (λ (q : Reach). on_from (far q body) bytes) (sym x) }
 
   -- noise alone
-  pub hunts-all : length bytes ≤ n → Onward bytes r body (record { hearing = Hunting; event = Skipped; taken = n }) body
-  hunts-all h =
+  pub hunts_all : length bytes ≤ n → Onward bytes r body (record { hearing = Hunting; event = Skipped; taken = n }) body
+  hunts_all h =
       record {
         same =
-            to-noise
+            to_noise
             ∙ simp (ne_eqb n r.taken (λ w. omega (arith, w, c.there)))
             (sym (on_quiet (record { heard = heard Hunting Skipped; body = body; taken = n }) bytes refl));
       }
 
 -- ---- at Length
 module _ where
-  abbrev length-heard : Bool → ℕ → ℕ → Heard
-  length-heard t clock b = pick t (heard Hunting (Ended BadLength)) (heard (Body (begun clock b)) Inside)
+  abbrev length_heard : Bool → ℕ → ℕ → Heard
+  length_heard t clock b = pick t (heard Hunting (Ended BadLength)) (heard (Body (begun clock b)) Inside)
 
-  length-keeps : (t : Bool) (clock b : ℕ) (body : List ℕ) → keep (length-heard t clock b).event b body ≡ body
-  length-keeps true clock b body = refl
-  length-keeps false clock b body = refl
+  length_keeps : (t : Bool) (clock b : ℕ) (body : List ℕ) → keep (length_heard t clock b).event b body ≡ body
+  length_keeps true clock b body = refl
+  length_keeps false clock b body = refl
 
 pub measured_keeps : (clock b : ℕ) (body : List ℕ) → keep (measured clock b).event b body ≡ body
-measured_keeps clock b body = length-keeps (ltb b 3) clock b body
+measured_keeps clock b body = length_keeps (ltb b 3) clock b body
 
 pub headed_one : (bytes : List ℕ) (r : Reach) (clock : ℕ) → Quiet bytes r → r.hearing ≡ Head clock
     → {q : Reach} → q ≡ gone (measured clock (get_or bytes r.taken 0)) (r.taken + 1) → (body : List ℕ) → Onward bytes r body q body
@@ -163,7 +163,7 @@ pub hunts_head : (bytes : List ℕ) (r : Reach) → Quiet bytes r → r.hearing 
     → n + 1 < length bytes → get_or bytes n 0 ≡ 1 → {q : Reach} → q ≡ gone (measured 0 (get_or bytes (n + 1) 0)) (n + 2) → Onward bytes r body q body
 hunts_head bytes r c e n z body h one x =
     let start : Reach = gone (heard (Head 0) Inside) (n + 1) in
-    let s = hunts-one bytes r c e n z body (omega arith) {q = start} (ap (λ (b : ℕ). gone (hunted b) (n + 1)) (sym one)) in
+    let s = hunts_one bytes r c e n z body (omega arith) {q = start} (ap (λ (b : ℕ). gone (hunted b) (n + 1)) (sym one)) in
     let two : n + 2 ≡ n + 1 + 1 = omega arith in
     let t = headed_one bytes start 0 (record { there = h; quiet = refl }) refl (x ∙ ap (λ (k : ℕ). gone (measured 0 (get_or bytes (n + 1) 0)) k) two) body in
     record { same = s.same ∙ t.same }
@@ -288,8 +288,8 @@ module _ (bytes : List ℕ) (r : Reach) (p : Partial) (c : Quiet bytes r) (e : r
   abbrev after : List ℕ → ℕ → Far
   after body k = record { heard = heard (Body (walked p part)) (last p r.event part); body = kept body p.at part; taken = i + k }
 
-  far-walked : (body : List ℕ) → on_from (far r body) bytes ≡ on_from (after body n) bytes
-  far-walked body =
+  far_walked : (body : List ℕ) → on_from (far r body) bytes ≡ on_from (after body n) bytes
+  far_walked body =
       on_quiet (far r body) bytes still
       ∙ ap (λ (h : Hearing). hear_from (record { heard = heard h r.event; body = body; taken = i }) (drop i bytes)) e
       ∙ ap (λ (l : List ℕ). hear_from (record { heard = heard (Body p) r.event; body = body; taken = i }) l)
@@ -302,27 +302,27 @@ module _ (bytes : List ℕ) (r : Reach) (p : Partial) (c : Quiet bytes r) (e : r
     at_next : next.at ≡ p.at + n
     at_next = ap (λ (q : Partial). q.at) (x ∙ walked_is p part) ∙ ap (λ (k : ℕ). p.at + k) part_length
 
-    size-next : next.size ≡ p.size
-    size-next = ap (λ (q : Partial). q.size) (x ∙ walked_is p part)
+    size_next : next.size ≡ p.size
+    size_next = ap (λ (q : Partial). q.size) (x ∙ walked_is p part)
 
     walked_to : {v : Event} → last p r.event part ≡ v
         → on_from (far r body) bytes ≡ on_from (record { heard = heard (Body next) v; body = body'; taken = i + n }) bytes
     walked_to {v} w =
-        far-walked body
+        far_walked body
         ∙ ap (λ (q : Partial). on_from (record { heard = heard (Body q) (last p r.event part); body = kept body p.at part; taken = i + n }) bytes) (sym x)
         ∙ ap (λ (l : List ℕ). on_from (record { heard = heard (Body next) (last p r.event part); body = l; taken = i + n }) bytes) (sym y)
         ∙ ap (λ (u : Event). on_from (record { heard = heard (Body next) u; body = body'; taken = i + n }) bytes) w
 
     -- the bytes end inside the body
-    pub bodied-part : 0 < n → Onward bytes r body (record { hearing = Body next; event = Kept (next.at - 1); taken = i + n }) body'
-    bodied-part some =
+    pub bodied_part : 0 < n → Onward bytes r body (record { hearing = Body next; event = Kept (next.at - 1); taken = i + n }) body'
+    bodied_part some =
         record { same = walked_to (last_of p r.event part (omega (arith, part_length)) ∙ ap (λ (q : Partial). Kept (q.at - 1)) (sym x)) }
 
     -- the checksum is there too
-    pub bodied-whole : n ≡ p.size - p.at → i + n < length bytes → {q : Reach} → q ≡ gone (followed next (get_or bytes (i + n) 0)) (i + n + 1) → Onward bytes r body q body'
-    bodied-whole all h w =
+    pub bodied_whole : n ≡ p.size - p.at → i + n < length bytes → {q : Reach} → q ≡ gone (followed next (get_or bytes (i + n) 0)) (i + n + 1) → Onward bytes r body q body'
+    bodied_whole all h w =
         let f = get_or bytes (i + n) 0 in
-        let d : ltb next.at next.size ≡ false = le-ltb next.at next.size (omega (arith, at_next, size-next, all)) in
+        let d : ltb next.at next.size ≡ false = le-ltb next.at next.size (omega (arith, at_next, size_next, all)) in
         let k : keep (followed next f).event f body' ≡ body' = simp d in
         let s =
         walked_to refl

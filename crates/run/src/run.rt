@@ -13,7 +13,7 @@ use frame::{ACK, CAN, MAX_BODY, NAK, START, least};
 use hearing::{Event, Heard, Hearing, Partial, followed, hunted, measured};
 
 // How far a run of bytes was heard: the hearing after it, the last event, and how many bytes were taken.
-#[derive(Drop)]
+#[derive(Clone, Copy)]
 pub struct Reach {
     pub hearing: Hearing,
     pub event: Event,

@@ -75,88 +75,88 @@ module _ (R : Rules) (a : Asking) (f : List ℕ) where
   record Leads (l : Link) (h : List Call) (w : List Call → Watch) (t : ℕ) (line : List ℕ) : Type 0 where
     to : (k : List Call) → watch R a l (h ++ k) ≡ add t line (w k)
 
-  abbrev goingOn : Link → List Call → Watch
-  goingOn l k = watch R a l k
+  abbrev going_on : Link → List Call → Watch
+  going_on l k = watch R a l k
 
-  abbrev over-with : Verdict → List Call → Watch
-  over-with v k = settled v 0 []
+  abbrev over_with : Verdict → List Call → Watch
+  over_with v k = settled v 0 []
 
   then : {l l' : Link} {h h' : List Call} {w : List Call → Watch} {t u : ℕ} {line more : List ℕ}
-      → Leads l h (goingOn l') t line → Leads l' h' w u more → Leads l (h ++ h') w (t + u) (line ++ more)
+      → Leads l h (going_on l') t line → Leads l' h' w u more → Leads l (h ++ h') w (t + u) (line ++ more)
   then {l} {l'} {h} {h'} {w} {t} {u} {line} {more} p q =
       record { to = λ k. ap (watch R a l) (append_assoc h h' k) ∙ p.to (h' ++ k) ∙ ap (add t line) (q.to k) ∙ add_add t u line more (w k) }
 
   -- ---- one call
-  tick-gave : (l : Link) (o : Out) → tick_out R l ≡ o → verdict_of a o ≡ none → Leads l (lent tick ∷ []) (goingOn o.link) 1 o.line
-  tick-gave l o e v =
+  tick_gave : (l : Link) (o : Out) → tick_out R l ≡ o → verdict_of a o ≡ none → Leads l (lent tick ∷ []) (going_on o.link) 1 o.line
+  tick_gave l o e v =
       record {
         to = λ k. ap (λ (x : Out). onward (verdict_of a x) 1 x.line (watch R a x.link k)) e
             ∙ ap (λ (s : Says). onward s 1 o.line (watch R a o.link k)) v;
       }
 
-  tick-ended : (l : Link) (o : Out) (v : Verdict) → tick_out R l ≡ o → verdict_of a o ≡ says v → o.line ≡ [] → Leads l (lent tick ∷ []) (over-with v) 1 []
-  tick-ended l o v e p q =
+  tick_ended : (l : Link) (o : Out) (v : Verdict) → tick_out R l ≡ o → verdict_of a o ≡ says v → o.line ≡ [] → Leads l (lent tick ∷ []) (over_with v) 1 []
+  tick_ended l o v e p q =
       record {
         to = λ k. ap (λ (x : Out). onward (verdict_of a x) 1 x.line (watch R a x.link k)) e
             ∙ ap₂ (λ (s : Says) (m : List ℕ). onward s 1 m (watch R a o.link k)) p q;
       }
 
   -- the verdict, from the accepting call on
-  finish : {l : Link} {h : List Call} {v : Verdict} {t : ℕ} (line : List ℕ) → Leads l h (over-with v) t (line ++ []) → add 0 [] (watch R a l h) ≡ settled v t line
+  finish : {l : Link} {h : List Call} {v : Verdict} {t : ℕ} (line : List ℕ) → Leads l h (over_with v) t (line ++ []) → add 0 [] (watch R a l h) ≡ settled v t line
   finish {l} {h} {v} {t} line p =
       add_none (watch R a l h) ∙ ap (watch R a l) (sym (append-nil h)) ∙ p.to [] ∙ ap₂ (settled v) (add-zero t) (append-nil (line ++ []) ∙ append-nil line)
 
   -- a tick while hunting, by what the job does
   hunting : (j j' : Job) (s : Sending) → on_tick R (length f) true j ≡ goes_on j' s → send_verdict s ≡ none
-      → Leads (at Hunting j) (lent tick ∷ []) (goingOn (at Hunting j')) 1 []
+      → Leads (at Hunting j) (lent tick ∷ []) (going_on (at Hunting j')) 1 []
   unfolding tick_out
-  hunting j j' s e v = tick-gave (at Hunting j) (gives Hunting TickHunting j (goes_on j' s)) (ap (gives Hunting TickHunting j) e) (no_verdict a s session.Nothing v refl)
+  hunting j j' s e v = tick_gave (at Hunting j) (gives Hunting TickHunting j (goes_on j' s)) (ap (gives Hunting TickHunting j) e) (no_verdict a s session.Nothing v refl)
 
   -- m quiet ticks by a family of links, then one tick more
-  quiet_then : (g : ℕ → Link) (w : List Call → Watch) (line : List ℕ) (m : ℕ) → ((i : ℕ) → i < m → Leads (g i) (lent tick ∷ []) (goingOn (g (suc i))) 1 [])
+  quiet_then : (g : ℕ → Link) (w : List Call → Watch) (line : List ℕ) (m : ℕ) → ((i : ℕ) → i < m → Leads (g i) (lent tick ∷ []) (going_on (g (suc i))) 1 [])
       → Leads (g m) (lent tick ∷ []) w 1 line → Leads (g 0) (silence (suc m)) w (suc m) line
   quiet_then g w line zero q p = p
   quiet_then g w line (suc m) q p =
       subst (λ (t : ℕ). Leads (g 0) (silence (suc (suc m))) w t line) (let e : 1 + suc m ≡ suc (suc m) = omega arith in e)
       (then (q 0 (omega arith)) (quiet_then (λ i. g (suc i)) w line m (λ i h. q (suc i) (omega arith)) p))
 
-  quietly : (g : ℕ → Link) (m : ℕ) → ((i : ℕ) → i < m → Leads (g i) (lent tick ∷ []) (goingOn (g (suc i))) 1 []) → Leads (g 0) (silence m) (goingOn (g m)) m []
+  quietly : (g : ℕ → Link) (m : ℕ) → ((i : ℕ) → i < m → Leads (g i) (lent tick ∷ []) (going_on (g (suc i))) 1 []) → Leads (g 0) (silence m) (going_on (g m)) m []
   quietly g zero q = record { to = λ k. sym (add_none (watch R a (g 0) k)) }
-  quietly g (suc m) q = quiet_then g (goingOn (g (suc m))) [] m (λ i h. q i (omega arith)) (q m (omega arith))
+  quietly g (suc m) q = quiet_then g (going_on (g (suc m))) [] m (λ i h. q i (omega arith)) (q m (omega arith))
 
   -- ---- waiting for the ACK
   waiting : (n e : ℕ) → suc e < R.wait (length f) → on_tick R (length f) true (Waiting a n e) ≡ still (Waiting a n (suc e))
   waiting n e h = rw (add-one e, lt-ltb (suc e) (R.wait (length f)) h)
 
   -- given up, with a back-off that is not 0: whatever the cause
-  backs-off : (cause : Cause) (n : ℕ) → n < 4 → 0 < R.back cause n
+  backs_off_lem : (cause : Cause) (n : ℕ) → n < 4 → 0 < R.back cause n
       → lose R cause true a n ≡ goes_on (BackingOff a n (R.back cause n)) (sending.BackingOff (record { 0 = R.back cause n }))
-  backs-off cause n q p = rw (lt-ltb n 4 q, ne_eqb (R.back cause n) 0 (λ z. omega arith))
+  backs_off_lem cause n q p = rw (lt-ltb n 4 q, ne_eqb (R.back cause n) 0 (λ z. omega arith))
 
   lost : (n e : ℕ) → suc e ≡ R.wait (length f) → on_tick R (length f) true (Waiting a n e) ≡ lose R Time true a n
   lost n e h = rw (add-one e, le-ltb (suc e) (R.wait (length f)) (omega arith))
 
-  wait-then : (n : ℕ) (w : List Call → Watch) → 0 < R.wait (length f)
+  wait_then : (n : ℕ) (w : List Call → Watch) → 0 < R.wait (length f)
       → Leads (at Hunting (Waiting a n (R.wait (length f) - 1))) (lent tick ∷ []) w 1 [] → Leads (at Hunting (Waiting a n 0)) (silence (R.wait (length f))) w (R.wait (length f)) []
-  wait-then n w h p =
+  wait_then n w h p =
       subst (λ (t : ℕ). Leads (at Hunting (Waiting a n 0)) (silence t) w t []) (let e : suc (R.wait (length f) - 1) ≡ R.wait (length f) = omega arith in e)
       (quiet_then (λ i. at Hunting (Waiting a n i)) w [] (R.wait (length f) - 1) (λ i q. hunting _ _ sending.Nothing (waiting n i (omega arith)) refl) p)
 
-  wait-almost : (n : ℕ) → Leads (at Hunting (Waiting a n 0)) (silence (R.wait (length f) - 1)) (goingOn (at Hunting (Waiting a n (R.wait (length f) - 1)))) (R.wait (length f) - 1) []
-  wait-almost n = quietly (λ i. at Hunting (Waiting a n i)) (R.wait (length f) - 1) (λ i q. hunting _ _ sending.Nothing (waiting n i (omega arith)) refl)
+  wait_almost : (n : ℕ) → Leads (at Hunting (Waiting a n 0)) (silence (R.wait (length f) - 1)) (going_on (at Hunting (Waiting a n (R.wait (length f) - 1)))) (R.wait (length f) - 1) []
+  wait_almost n = quietly (λ i. at Hunting (Waiting a n i)) (R.wait (length f) - 1) (λ i q. hunting _ _ sending.Nothing (waiting n i (omega arith)) refl)
 
   -- 15 while waiting, by what the job does
   told : (n e : ℕ) (j' : Job) (s : Sending) → lose R Told true a n ≡ goes_on j' s → send_verdict s ≡ none
-      → Leads (at Hunting (Waiting a n e)) (lent (byte NAK) ∷ []) (goingOn (at Hunting j')) 0 []
+      → Leads (at Hunting (Waiting a n e)) (lent (byte NAK) ∷ []) (going_on (at Hunting j')) 0 []
   unfolding byte_out
   told n e j' s q v =
       record {
-        to = λ k. ap (λ (x : Act). onward (verdict_of a (saysNak x)) 0 (saysNak x).line (watch R a (saysNak x).link k)) q
+        to = λ k. ap (λ (x : Act). onward (verdict_of a (says_nak x)) 0 (says_nak x).line (watch R a (says_nak x).link k)) q
             ∙ ap (λ (z : Says). onward z 0 [] (watch R a (at Hunting j') k)) (no_verdict a s session.Nothing v refl);
       }
     where
-      saysNak : Act → Out
-      saysNak = gives Hunting (Alone Nak) (Waiting a n e)
+      says_nak : Act → Out
+      says_nak = gives Hunting (Alone Nak) (Waiting a n e)
 
   -- ---- backing off
   backing : (n b : ℕ) → on_tick R (length f) true (BackingOff a n (suc (suc b))) ≡ still (BackingOff a n (suc b))
@@ -165,91 +165,91 @@ module _ (R : Rules) (a : Asking) (f : List ℕ) where
       rw (lt-ltb 1 (suc (suc b)) (omega arith), e)
 
   -- to its last tick
-  backed-off : (n b : ℕ) → Leads (at Hunting (BackingOff a n (suc b))) (silence b) (goingOn (at Hunting (BackingOff a n 1))) b []
-  backed-off n zero = record { to = λ k. sym (add_none (watch R a (at Hunting (BackingOff a n 1)) k)) }
-  backed-off n (suc b) =
-      subst (λ (t : ℕ). Leads (at Hunting (BackingOff a n (suc (suc b)))) (silence (suc b)) (goingOn (at Hunting (BackingOff a n 1))) t [])
+  backed_off : (n b : ℕ) → Leads (at Hunting (BackingOff a n (suc b))) (silence b) (going_on (at Hunting (BackingOff a n 1))) b []
+  backed_off n zero = record { to = λ k. sym (add_none (watch R a (at Hunting (BackingOff a n 1)) k)) }
+  backed_off n (suc b) =
+      subst (λ (t : ℕ). Leads (at Hunting (BackingOff a n (suc (suc b)))) (silence (suc b)) (going_on (at Hunting (BackingOff a n 1))) t [])
       (let e : 1 + b ≡ suc b = omega arith in e)
-      (then (hunting _ _ sending.Nothing (backing n b) refl) (backed-off n b))
+      (then (hunting _ _ sending.Nothing (backing n b) refl) (backed_off n b))
 
-  back-then : (n b : ℕ) → 0 < b → Leads (at Hunting (BackingOff a n b)) (silence (b - 1)) (goingOn (at Hunting (BackingOff a n 1))) (b - 1) []
-  back-then n b h =
-      subst (λ (t : ℕ). Leads (at Hunting (BackingOff a n t)) (silence (b - 1)) (goingOn (at Hunting (BackingOff a n 1))) (b - 1) [])
+  back_then : (n b : ℕ) → 0 < b → Leads (at Hunting (BackingOff a n b)) (silence (b - 1)) (going_on (at Hunting (BackingOff a n 1))) (b - 1) []
+  back_then n b h =
+      subst (λ (t : ℕ). Leads (at Hunting (BackingOff a n t)) (silence (b - 1)) (going_on (at Hunting (BackingOff a n 1))) (b - 1) [])
       (let e : suc (b - 1) ≡ b = omega arith in e)
-      (backed-off n (b - 1))
+      (backed_off n (b - 1))
 
   -- ---- a frame that begins, and its abort
-  begins : (j : Job) → Leads (at Hunting j) (frame_begins ∷ []) (goingOn (at (Head 0) j)) 0 []
+  begins : (j : Job) → Leads (at Hunting j) (frame_begins ∷ []) (going_on (at (Head 0) j)) 0 []
   unfolding byte_out
   begins j = record { to = λ k. ap (λ (s : Says). onward s 0 [] (watch R a (at (Head 0) j) k)) (no_verdict a sending.Nothing session.Nothing refl refl) }
 
   inside : (c : ℕ) (j j' : Job) (s : Sending) → suc c < 1501 → on_tick R (length f) false j ≡ goes_on j' s → send_verdict s ≡ none
-      → Leads (at (Head c) j) (lent tick ∷ []) (goingOn (at (Head (suc c)) j')) 1 []
+      → Leads (at (Head c) j) (lent tick ∷ []) (going_on (at (Head (suc c)) j')) 1 []
   unfolding tick_out
   inside c j j' s h e v =
-      tick-gave (at (Head c) j) (gives (Head (suc c)) TickInside j (goes_on j' s))
+      tick_gave (at (Head c) j) (gives (Head (suc c)) TickInside j (goes_on j' s))
       (rw (add-one c, lt-ltb (suc c) 1501 h) (ap (gives (Head (suc c)) TickInside j) e)) (no_verdict a s session.Nothing v refl)
 
-  abbrev copyOut : ℕ → Act
-  copyOut n = record { job = Waiting a n 0; sending = sending.Copy n; session = session.Nothing; reset = reset.Nothing; copy = true }
+  abbrev copy_out : ℕ → Act
+  copy_out n = record { job = Waiting a n 0; sending = sending.Copy n; session = session.Nothing; reset = reset.Nothing; copy = true }
 
-  aborts : (n : ℕ) → n < 4 → Leads (at (Head 1500) (Due a n)) (lent tick ∷ []) (goingOn (at Hunting (Waiting a (n + 1) 0))) 1 f
+  aborts : (n : ℕ) → n < 4 → Leads (at (Head 1500) (Due a n)) (lent tick ∷ []) (going_on (at Hunting (Waiting a (n + 1) 0))) 1 f
   unfolding tick_out
   aborts n h =
-      subst (λ (x : List ℕ). Leads (at (Head 1500) (Due a n)) (lent tick ∷ []) (goingOn (at Hunting (Waiting a (n + 1) 0))) 1 x)
+      subst (λ (x : List ℕ). Leads (at (Head 1500) (Due a n)) (lent tick ∷ []) (going_on (at Hunting (Waiting a (n + 1) 0))) 1 x)
       (take-append_seam f _)
-      (tick-gave (at (Head 1500) (Due a n)) (gives Hunting Aborted (Due a n) (copyOut (n + 1)))
-      (ap (gives Hunting Aborted (Due a n)) (let e : put_out a n ≡ copyOut (n + 1) = rw (lt-ltb n 4 h) in e)) (no_verdict a (sending.Copy (n + 1)) session.Nothing refl refl))
+      (tick_gave (at (Head 1500) (Due a n)) (gives Hunting Aborted (Due a n) (copy_out (n + 1)))
+      (ap (gives Hunting Aborted (Due a n)) (let e : put_out a n ≡ copy_out (n + 1) = rw (lt-ltb n 4 h) in e)) (no_verdict a (sending.Copy (n + 1)) session.Nothing refl refl))
 
   -- due from the start of the frame
-  due-then : Leads (at (Head 0) (Due a 0)) (silence 1501) (goingOn (at Hunting (Waiting a 1 0))) 1501 f
-  due-then =
+  due_then_lem : Leads (at (Head 0) (Due a 0)) (silence 1501) (going_on (at Hunting (Waiting a 1 0))) 1501 f
+  due_then_lem =
       quiet_then (λ i. at (Head i) (Due a 0)) _ f 1500 (λ i h. inside i (Due a 0) (Due a 0) sending.Nothing (omega arith) refl refl) (aborts 0 (omega arith))
 
   -- the back-off ends with the frame's first tick
-  abbrev comesDue : ℕ → ℕ → Link
-  comesDue n zero = at (Head 0) (BackingOff a n 1)
-  comesDue n (suc i) = at (Head (suc i)) (Due a n)
+  abbrev comes_due : ℕ → ℕ → Link
+  comes_due n zero = at (Head 0) (BackingOff a n 1)
+  comes_due n (suc i) = at (Head (suc i)) (Due a n)
 
-  comes-due : (n i : ℕ) → i < 1500 → Leads (comesDue n i) (lent tick ∷ []) (goingOn (comesDue n (suc i))) 1 []
-  comes-due n zero h = inside 0 (BackingOff a n 1) (Due a n) sending.Due (omega arith) refl refl
-  comes-due n (suc i) h = inside (suc i) (Due a n) (Due a n) sending.Nothing (omega arith) refl refl
+  comes_due_lem : (n i : ℕ) → i < 1500 → Leads (comes_due n i) (lent tick ∷ []) (going_on (comes_due n (suc i))) 1 []
+  comes_due_lem n zero h = inside 0 (BackingOff a n 1) (Due a n) sending.Due (omega arith) refl refl
+  comes_due_lem n (suc i) h = inside (suc i) (Due a n) (Due a n) sending.Nothing (omega arith) refl refl
 
-  come-due : (n : ℕ) → n < 4 → Leads (at (Head 0) (BackingOff a n 1)) (silence 1501) (goingOn (at Hunting (Waiting a (n + 1) 0))) 1501 f
-  come-due n h = quiet_then (comesDue n) _ f 1500 (comes-due n) (aborts n h)
+  come_due : (n : ℕ) → n < 4 → Leads (at (Head 0) (BackingOff a n 1)) (silence 1501) (going_on (at Hunting (Waiting a (n + 1) 0))) 1501 f
+  come_due n h = quiet_then (comes_due n) _ f 1500 (comes_due_lem n) (aborts n h)
 
   -- ---- a round: from copy n to copy n + 1, given up for this cause
   module _ (cause : Cause) (some : 0 < R.wait (length f)) (backs : (n : ℕ) → 0 < R.back cause n) where
-    given-up : (n : ℕ) → n < 4
-        → Leads (at Hunting (Waiting a n 0)) (given_up cause (R.wait (length f))) (goingOn (at Hunting (BackingOff a n (R.back cause n)))) (given_up_time cause (R.wait (length f))) []
-    given-up n h = by cause (backs-off cause n h (backs n))
+    given_up_lem : (n : ℕ) → n < 4
+        → Leads (at Hunting (Waiting a n 0)) (given_up cause (R.wait (length f))) (going_on (at Hunting (BackingOff a n (R.back cause n)))) (given_up_time cause (R.wait (length f))) []
+    given_up_lem n h = by cause (backs_off_lem cause n h (backs n))
       where
         by : (k : Cause) → lose R k true a n ≡ goes_on (BackingOff a n (R.back k n)) (sending.BackingOff (record { 0 = R.back k n }))
-            → Leads (at Hunting (Waiting a n 0)) (given_up k (R.wait (length f))) (goingOn (at Hunting (BackingOff a n (R.back k n)))) (given_up_time k (R.wait (length f))) []
-        by Time e = wait-then n _ some (hunting _ _ _ (lost n (R.wait (length f) - 1) (omega arith) ∙ e) refl)
+            → Leads (at Hunting (Waiting a n 0)) (given_up k (R.wait (length f))) (going_on (at Hunting (BackingOff a n (R.back k n)))) (given_up_time k (R.wait (length f))) []
+        by Time e = wait_then n _ some (hunting _ _ _ (lost n (R.wait (length f) - 1) (omega arith) ∙ e) refl)
         by Told e =
-            subst (λ (t : ℕ). Leads (at Hunting (Waiting a n 0)) (given_up Told (R.wait (length f))) (goingOn (at Hunting (BackingOff a n (R.back Told n)))) t [])
-            (add-zero (R.wait (length f) - 1)) (then (wait-almost n) (told n (R.wait (length f) - 1) _ _ e refl))
+            subst (λ (t : ℕ). Leads (at Hunting (Waiting a n 0)) (given_up Told (R.wait (length f))) (going_on (at Hunting (BackingOff a n (R.back Told n)))) t [])
+            (add-zero (R.wait (length f) - 1)) (then (wait_almost n) (told n (R.wait (length f) - 1) _ _ e refl))
 
-    round-leads : (n : ℕ) → n < 4
-        → Leads (at Hunting (Waiting a n 0)) (round R cause (length f) n) (goingOn (at Hunting (Waiting a (n + 1) 0))) (round_time R cause (length f) n) f
-    round-leads n h = then (given-up n h) (then (back-then n (R.back cause n) (backs n)) (then (begins (BackingOff a n 1)) (come-due n h)))
+    round_leads : (n : ℕ) → n < 4
+        → Leads (at Hunting (Waiting a n 0)) (round R cause (length f) n) (going_on (at Hunting (Waiting a (n + 1) 0))) (round_time R cause (length f) n) f
+    round_leads n h = then (given_up_lem n h) (then (back_then n (R.back cause n) (backs n)) (then (begins (BackingOff a n 1)) (come_due n h)))
 
-    fourth-leads : Leads (at (Head 0) (Due a 0)) (to_fourth R cause (length f)) (goingOn (at Hunting (Waiting a 4 0))) (fourth_time R cause (length f)) (f ++ (f ++ (f ++ f)))
-    fourth-leads = then due-then (then (round-leads 1 (omega arith)) (then (round-leads 2 (omega arith)) (round-leads 3 (omega arith))))
+    fourth_leads : Leads (at (Head 0) (Due a 0)) (to_fourth R cause (length f)) (going_on (at Hunting (Waiting a 4 0))) (fourth_time R cause (length f)) (f ++ (f ++ (f ++ f)))
+    fourth_leads = then due_then_lem (then (round_leads 1 (omega arith)) (then (round_leads 2 (omega arith)) (round_leads 3 (omega arith))))
 
 -- ---- the verdicts
 fails : (R : Rules) (f : List ℕ) (e : ℕ) → suc e ≡ R.wait (length f)
-    → Leads R Plain f (at R Plain f Hunting (Waiting Plain 4 e)) (lent tick ∷ []) (over-with R Plain f (failed 4)) 1 []
+    → Leads R Plain f (at R Plain f Hunting (Waiting Plain 4 e)) (lent tick ∷ []) (over_with R Plain f (failed 4)) 1 []
 unfolding tick_out
 fails R f e h =
     let p : on_tick R (length f) true (Waiting Plain 4 e) ≡ fail Plain 4 = rw (add-one e, le-ltb (suc e) (R.wait (length f)) (omega arith)) in
-    tick-ended R Plain f _ (gives R Plain f Hunting TickHunting (Waiting Plain 4 e) (fail Plain 4)) (failed 4)
+    tick_ended R Plain f _ (gives R Plain f Hunting TickHunting (Waiting Plain 4 e) (fail Plain 4)) (failed 4)
     (ap (gives R Plain f Hunting TickHunting (Waiting Plain 4 e)) p) refl refl
 
 -- 06: the session waits for the response
 acknowledged : (R : Rules) (c : ℕ) (f : List ℕ) (n e : ℕ)
-    → Leads R (Asks c) f (at R (Asks c) f Hunting (Waiting (Asks c) n e)) (lent (byte ACK) ∷ []) (goingOn R (Asks c) f (at R (Asks c) f Hunting (Awaiting c n 0))) 0 []
+    → Leads R (Asks c) f (at R (Asks c) f Hunting (Waiting (Asks c) n e)) (lent (byte ACK) ∷ []) (going_on R (Asks c) f (at R (Asks c) f Hunting (Awaiting c n 0))) 0 []
 unfolding byte_out
 acknowledged R c f n e = record { to = λ k. refl }
 
@@ -257,31 +257,31 @@ awaiting : (R : Rules) (c size n e : ℕ) → suc e < 5000 → on_tick R size tr
 awaiting R c size n e h = rw (add-one e, lt-ltb (suc e) 5000 h)
 
 no_response_lem : (R : Rules) (c : ℕ) (f : List ℕ) (n : ℕ)
-    → Leads R (Asks c) f (at R (Asks c) f Hunting (Awaiting c n 0)) (silence 5000) (over-with R (Asks c) f (no_response n)) 5000 []
+    → Leads R (Asks c) f (at R (Asks c) f Hunting (Awaiting c n 0)) (silence 5000) (over_with R (Asks c) f (no_response n)) 5000 []
 unfolding tick_out
 no_response_lem R c f n =
-    quiet_then R (Asks c) f (λ i. at R (Asks c) f Hunting (Awaiting c n i)) (over-with R (Asks c) f (no_response n)) [] 4999
+    quiet_then R (Asks c) f (λ i. at R (Asks c) f Hunting (Awaiting c n i)) (over_with R (Asks c) f (no_response n)) [] 4999
     (λ i h. hunting R (Asks c) f _ _ sending.Nothing (awaiting R c (length f) n i (omega arith)) refl)
-    (tick-ended R (Asks c) f _ _ (no_response n) refl refl refl)
+    (tick_ended R (Asks c) f _ _ (no_response n) refl refl refl)
 
 -- ---- every send and every session, for any rules with waits and with back-offs for this cause
 module _ (R : Rules) (cause : Cause) (backs : (n : ℕ) → 0 < R.back cause n) where
-  pub send-reaches : (kind command : ℕ) (ps : List ℕ) → kind ≤ RES → length ps ≤ MAX_PARAMETERS → 0 < R.wait (length (frame_of kind command ps))
+  pub send_reaches : (kind command : ℕ) (ps : List ℕ) → kind ≤ RES → length ps ≤ MAX_PARAMETERS → 0 < R.wait (length (frame_of kind command ps))
       → Reaches R before (send kind command ps) Plain (longest_send R cause (length (frame_of kind command ps))) (frame_of kind command ps) (failed 4) (send_time R cause (length (frame_of kind command ps)))
   unfolding byte_out open_out
-  send-reaches kind command ps k n some =
+  send_reaches kind command ps k n some =
       let f = frame_of kind command ps in
       record {
         gave = open_out (after R before) Plain f;
         accepted = rw (le-ltb 1 kind k, le-ltb 252 (length ps) n);
-        verdict = finish R Plain f (f ++ (f ++ (f ++ f))) (then R Plain f (fourth-leads R Plain f cause some backs) (wait-then R Plain f 4 _ some (fails R f _ (omega arith))));
+        verdict = finish R Plain f (f ++ (f ++ (f ++ f))) (then R Plain f (fourth_leads R Plain f cause some backs) (wait_then R Plain f 4 _ some (fails R f _ (omega arith))));
       }
 
-  pub session-reaches : (command : ℕ) (ps : List ℕ) → length ps ≤ MAX_PARAMETERS → 0 < R.wait (length (frame_of REQ command ps))
+  pub session_reaches : (command : ℕ) (ps : List ℕ) → length ps ≤ MAX_PARAMETERS → 0 < R.wait (length (frame_of REQ command ps))
       → Reaches R before (session_call command ps) (Asks command) (longest_session R cause (length (frame_of REQ command ps))) (frame_of REQ command ps) (no_response 4)
       (session_time R cause (length (frame_of REQ command ps)))
   unfolding byte_out open_out
-  session-reaches command ps n some =
+  session_reaches command ps n some =
       let f = frame_of REQ command ps in
       let a : Asking = Asks command in
       record {
@@ -289,8 +289,8 @@ module _ (R : Rules) (cause : Cause) (backs : (n : ℕ) → 0 < R.back cause n) 
         accepted = rw (le-ltb 252 (length ps) n);
         verdict =
             finish R a f (f ++ (f ++ (f ++ f)))
-            (then R a f (fourth-leads R a f cause some backs)
-            (then R a f (wait-almost R a f 4) (then R a f (acknowledged R command f 4 (R.wait (length f) - 1)) (no_response_lem R command f 4))));
+            (then R a f (fourth_leads R a f cause some backs)
+            (then R a f (wait_almost R a f 4) (then R a f (acknowledged R command f 4 (R.wait (length f) - 1)) (no_response_lem R command f 4))));
       }
 
 -- ---- the rules of the host and of the stand-in, in either mode
@@ -347,7 +347,7 @@ pub every_send_reaches : (c : Choice) (kind command : ℕ) (ps : List ℕ) → k
 every_send_reaches c kind command ps k n =
     let f = frame_of kind command ps in
     subst (Reaches (rules_of c) before (send kind command ps) Plain (longest_send (rules_of c) (longer c.mode) (length f)) f (failed 4))
-    (send_time_lem c (length f)) (send-reaches (rules_of c) (longer c.mode) (rules_back c) kind command ps k n (omega arith))
+    (send_time_lem c (length f)) (send_reaches (rules_of c) (longer c.mode) (rules_back c) kind command ps k n (omega arith))
 
 -- Every session reaches its bound: no response, 4 copies, on exactly that accepted tick.
 pub every_session_reaches : (c : Choice) (command : ℕ) (ps : List ℕ) → length ps ≤ MAX_PARAMETERS
@@ -356,7 +356,7 @@ pub every_session_reaches : (c : Choice) (command : ℕ) (ps : List ℕ) → len
 every_session_reaches c command ps n =
     let f = frame_of REQ command ps in
     subst (Reaches (rules_of c) before (session_call command ps) (Asks command) (longest_session (rules_of c) (longer c.mode) (length f)) f (no_response 4))
-    (session_time_lem c (length f)) (session-reaches (rules_of c) (longer c.mode) (rules_back c) command ps n (omega arith))
+    (session_time_lem c (length f)) (session_reaches (rules_of c) (longer c.mode) (rules_back c) command ps n (omega arith))
 
 -- ---- So demand 3 holds with no smaller bound, of either end, in either mode, for any length that a frame has.
 -- parameters for a frame of so many bytes

@@ -13,7 +13,7 @@ use timeouts::OldTimeouts;
 use units::Millis;
 
 // The values of an answer, and how many lent bytes it reports.
-#[derive(Drop)]
+#[derive(Clone, Copy)]
 struct Told {
     pub values: [u64; 8],
     pub used: usize,
@@ -216,7 +216,14 @@ fn answer(order: Order, bytes: &[u8], lent: &mut [u8]) -> Told {
 }
 
 // An order that needs no link, with its line of output. The second list of a form is what stands behind the front of a whole frame: its parameters.
-pub fn on_other(verbs: &[u8], order: Order, bytes: &[u8], out: &mut [u8], waiting: usize) -> usize {
+pub fn on_other(
+    rt: &impl Print,
+    verbs: &[u8],
+    order: Order,
+    bytes: &[u8],
+    out: &mut [u8],
+    waiting: usize,
+) -> usize {
     let mut space = [0u8; 600];
     fill(&mut space);
     let n = within(order.room, &space);
@@ -224,6 +231,6 @@ pub fn on_other(verbs: &[u8], order: Order, bytes: &[u8], out: &mut [u8], waitin
     let told = answer(order, bytes, lent);
     let form = form_at(verbs, order.form);
     let values = told.values;
-    let w = say(form, values, lent, behind(bytes, 4), out, waiting);
-    put_end(is_spilled(lent, told.used), out, w)
+    let w = say(rt, form, values, lent, behind(bytes, 4), out, waiting);
+    put_end(rt, is_spilled(lent, told.used), out, w)
 }

@@ -9,7 +9,7 @@ use orders::{behind, within};
 const MANY: u64 = 1000000;
 
 // Where a form is read: which value is next, and how many words of a choice are passed over before the next that is put.
-#[derive(Drop)]
+#[derive(Clone, Copy)]
 struct Place {
     pub value: usize,
     pub skip: u64,
@@ -69,25 +69,26 @@ fn after(c: u8, place: Place, value: u64) -> Place {
 }
 
 // The first bytes of a list.
-fn put_front(list: &[u8], n: u64, out: &mut [u8], waiting: usize) -> usize {
+fn put_front(rt: &impl Print, list: &[u8], n: u64, out: &mut [u8], waiting: usize) -> usize {
     let k = within(n as usize, list);
-    put_bytes(&list[0..k], out, waiting)
+    put_bytes(rt, &list[0..k], out, waiting)
 }
 
 // Two bytes, most significant first.
-fn put_pair(n: u64, out: &mut [u8], waiting: usize) -> usize {
-    let w = put_byte((n / 256 % 256) as u8, out, waiting);
-    put_byte((n % 256) as u8, out, w)
+fn put_pair(rt: &impl Print, n: u64, out: &mut [u8], waiting: usize) -> usize {
+    let w = put_byte(rt, (n / 256 % 256) as u8, out, waiting);
+    put_byte(rt, (n % 256) as u8, out, w)
 }
 
 // A colon with the number behind it.
-fn put_colon(n: u64, out: &mut [u8], waiting: usize) -> usize {
-    let w = put(b':', out, waiting);
-    put_number(n, out, w)
+fn put_colon(rt: &impl Print, n: u64, out: &mut [u8], waiting: usize) -> usize {
+    let w = put(rt, b':', out, waiting);
+    put_number(rt, n, out, w)
 }
 
 // What stands for a character of the form, where this value is the next: nothing in a word that is passed over.
 fn put_mark(
+    rt: &impl Print,
     c: u8,
     skip: u64,
     value: u64,
@@ -101,18 +102,19 @@ fn put_mark(
     }
     match c {
         b'{' | b'(' | b'}' | b')' | b',' => waiting,
-        b'#' => put_number(value, out, waiting),
-        b':' => put_colon(value, out, waiting),
-        b'%' => put_byte((value % 256) as u8, out, waiting),
-        b'$' => put_pair(value, out, waiting),
-        b'&' => put_front(first, value, out, waiting),
-        b'@' => put_front(second, value, out, waiting),
-        _ => put(c, out, waiting),
+        b'#' => put_number(rt, value, out, waiting),
+        b':' => put_colon(rt, value, out, waiting),
+        b'%' => put_byte(rt, (value % 256) as u8, out, waiting),
+        b'$' => put_pair(rt, value, out, waiting),
+        b'&' => put_front(rt, first, value, out, waiting),
+        b'@' => put_front(rt, second, value, out, waiting),
+        _ => put(rt, c, out, waiting),
     }
 }
 
 // Puts a form with its values and its two lists.
 pub fn say(
+    rt: &impl Print,
     form: &[u8],
     values: [u64; 8],
     first: &[u8],
@@ -126,7 +128,7 @@ pub fn say(
     while i < form.len() {
         let c = form[i];
         let value = value_at(values, place.value);
-        now = put_mark(c, place.skip, value, first, second, out, now);
+        now = put_mark(rt, c, place.skip, value, first, second, out, now);
         place = after(c, place, value);
         i += 1;
     }

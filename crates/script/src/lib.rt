@@ -1,4 +1,6 @@
 // What linkplay does without a link: the lines of a script are read by a table of verbs, the calls on frames and on command bodies carried out, and lines of output put together by their forms.
+#![tactic(auto)]
+
 mod calls;
 mod form;
 mod number;

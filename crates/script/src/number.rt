@@ -4,7 +4,7 @@ ghost use Rattle.std.specs.Prelude.{◌≤◌, length, ◌≡◌};
 use crate::table::end_of;
 
 // What a word says, and the place behind it.
-#[derive(Drop)]
+#[derive(Clone, Copy)]
 pub struct Number {
     pub is_right: bool,
     pub value: u32,
@@ -12,7 +12,7 @@ pub struct Number {
 }
 
 // How a number of some kind is spelt, and the most that it says.
-#[derive(Drop)]
+#[derive(Clone, Copy)]
 struct Spelling {
     pub base: u8,
     pub least: usize,

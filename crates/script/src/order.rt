@@ -7,7 +7,7 @@ use orders::{behind, spelt_at};
 const TOO_LONG: usize = 4097;
 
 // What a line asks for. The bytes that its words spell stand over its own front.
-#[derive(Drop)]
+#[derive(Clone, Copy)]
 pub struct Order {
     // The letter of the call; BLANK for an empty line or a comment, ERROR where the line is one.
     pub call: u8,

@@ -1,5 +1,5 @@
-// The output: characters wait in one buffer, which is written when it is full and when the program asks for it.
-use libc::STDOUT_FILENO;
+// The output: characters wait in one buffer, which is written when it is full and when the program asks for it. Who may write has the handle to print with.
+use itoa::Buffer;
 
 // So many bytes wait where a write failed. No buffer has them, so that nothing is put or written from then on.
 const BROKEN: usize = usize::MAX;
@@ -10,21 +10,21 @@ pub fn is_broken(waiting: usize) -> bool {
 }
 
 // Writes what waits, the first bytes of the buffer, and answers how many wait then.
-pub fn flush(out: &[u8], waiting: usize) -> usize {
+pub fn flush(rt: &impl Print, out: &[u8], waiting: usize) -> usize {
     if out.len() < waiting {
         return BROKEN;
     }
-    if io::write_all(STDOUT_FILENO, &out[0..waiting]) {
+    if rt.write_all(&out[0..waiting]).is_ok() {
         return 0;
     }
     BROKEN
 }
 
 // Puts a character behind what waits, and answers how many wait then. A full buffer is written first.
-pub(crate) fn put(c: u8, out: &mut [u8], waiting: usize) -> usize {
+pub(crate) fn put(rt: &impl Print, c: u8, out: &mut [u8], waiting: usize) -> usize {
     let mut at = waiting;
     if at == out.len() {
-        at = flush(out, waiting);
+        at = flush(rt, out, waiting);
     }
     if at < out.len() {
         out[at] = c;
@@ -34,18 +34,17 @@ pub(crate) fn put(c: u8, out: &mut [u8], waiting: usize) -> usize {
 }
 
 // A number in decimal.
-pub(crate) fn put_number(n: u64, out: &mut [u8], waiting: usize) -> usize {
-    let mut text = [0u8; 20];
-    let k = io::decimal(n, &mut text);
-    put_all(&text[0..k], out, waiting)
+pub(crate) fn put_number(rt: &impl Print, n: u64, out: &mut [u8], waiting: usize) -> usize {
+    let mut text = Buffer::new();
+    put_all(rt, text.format(n).as_bytes(), out, waiting)
 }
 
 // The characters of a text.
-fn put_all(text: &[u8], out: &mut [u8], waiting: usize) -> usize {
+fn put_all(rt: &impl Print, text: &[u8], out: &mut [u8], waiting: usize) -> usize {
     let mut now = waiting;
     let mut i = 0;
     while i < text.len() {
-        now = put(text[i], out, now);
+        now = put(rt, text[i], out, now);
         i += 1;
     }
     now
@@ -60,29 +59,29 @@ fn digit(n: u8) -> u8 {
 }
 
 // A byte as two hexadecimal digits.
-pub(crate) fn put_byte(b: u8, out: &mut [u8], waiting: usize) -> usize {
-    let w = put(digit(b / 16), out, waiting);
-    put(digit(b % 16), out, w)
+pub(crate) fn put_byte(rt: &impl Print, b: u8, out: &mut [u8], waiting: usize) -> usize {
+    let w = put(rt, digit(b / 16), out, waiting);
+    put(rt, digit(b % 16), out, w)
 }
 
 // Bytes as hexadecimal digits, `-` where there are none.
-pub(crate) fn put_bytes(bytes: &[u8], out: &mut [u8], waiting: usize) -> usize {
+pub(crate) fn put_bytes(rt: &impl Print, bytes: &[u8], out: &mut [u8], waiting: usize) -> usize {
     if bytes.len() == 0 {
-        return put(b'-', out, waiting);
+        return put(rt, b'-', out, waiting);
     }
     let mut now = waiting;
     let mut i = 0;
     while i < bytes.len() {
-        now = put_byte(bytes[i], out, now);
+        now = put_byte(rt, bytes[i], out, now);
         i += 1;
     }
     now
 }
 
 // The end of a line of output.
-pub fn put_end(is_spilled: bool, out: &mut [u8], waiting: usize) -> usize {
+pub fn put_end(rt: &impl Print, is_spilled: bool, out: &mut [u8], waiting: usize) -> usize {
     if is_spilled {
-        return put_all(b" SPILL\n", out, waiting);
+        return put_all(rt, b" SPILL\n", out, waiting);
     }
-    put(b'\n', out, waiting)
+    put(rt, b'\n', out, waiting)
 }

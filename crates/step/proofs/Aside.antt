@@ -1,6 +1,6 @@
 -- Where an event does not concern the job: what `decide` may leave out.
 -- Assumes nothing.
-use Rattle.core.specs.Prelude.{◌≡◌, ℕ, false}
+use Rattle.std.specs.Prelude.{◌≡◌, ℕ, false}
 use mathlib.Core.Path.{refl, ap, ◌∙◌}
 use Rattle.refusals.proofs.Picks.{no}
 use Rattle.rules.specs.Rules.{Rules}

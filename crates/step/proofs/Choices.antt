@@ -1,6 +1,6 @@
 -- Whatever a link was opened as, its sender and its session act alike, if the rules of sending are the same.
 -- Assumes nothing.
-use Rattle.core.specs.Prelude.{◌≡◌, ℕ, Bool, true, false}
+use Rattle.std.specs.Prelude.{◌≡◌, ℕ, Bool, true, false}
 use mathlib.Core.Path.{refl}
 use Rattle.rules.specs.Rules.{Rules, chosen}
 use Rattle.rules.specs.declared.Choice.{Choice}

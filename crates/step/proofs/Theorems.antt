@@ -6,7 +6,7 @@
 --     either_determined                                   the reset of a call
 --     opening_determined, restarting_determined           what an accepted send or session decides, and what a restart does
 -- Assumes nothing.
-use Rattle.core.specs.Prelude.{◌≡◌, ℕ, Bool}
+use Rattle.std.specs.Prelude.{◌≡◌, ℕ, Bool}
 use Rattle.refusals.proofs.Theorems.{fixed}
 use Rattle.hearing.specs.declared.hearing.Event.{Event}
 use Rattle.job.specs.declared.job.Asking.{Asking}
@@ -15,7 +15,7 @@ use Rattle.rules.specs.Rules.{rules_of}
 use Rattle.rules.specs.declared.Choice.{Choice}
 use Rattle.report.specs.declared.Reset.{Reset}
 use Rattle.step.specs.declared.checks.Checked.{Checked}
-use Rattle.step.specs.declared.core.Core.{Core}
+use Rattle.step.specs.declared.numbers.Core.{Core}
 use Rattle.step.specs.declared.deciding.Outcome.{Outcome}
 use Rattle.step.specs.Checks.{lacks_room}
 use Rattle.step.specs.Promises.{send_checks, session_checks}

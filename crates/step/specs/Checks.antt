@@ -1,6 +1,6 @@
 -- Section 3, link calls: their checks in order.
 -- Assumes nothing.
-use Rattle.core.specs.Prelude.{ℕ, Bool, true, List, length, nat_lt}
+use Rattle.std.specs.Prelude.{ℕ, Bool, true, List, length, nat_lt}
 use Rattle.refusals.specs.Pick.{pick}
 use Rattle.refusals.specs.declared.Refusal.{Refusal}
 use Rattle.refusals.specs.declared.Refusal.TheVariants.{Room, Busy, Kind, Long}

@@ -3,7 +3,7 @@
 use Rattle.hearing.specs.declared.hearing.Hearing.TheVariants.{Hunting}
 use Rattle.job.specs.declared.job.Job.TheVariants.{Idle}
 use Rattle.rules.specs.declared.Choice.{Choice}
-use Rattle.step.specs.declared.core.Core.{Core}
+use Rattle.step.specs.declared.numbers.Core.{Core}
 
 abbrev pub fresh_core : Choice → Core
 fresh_core c = record { hearing = Hunting; job = Idle; bad = 0; size = 0; choice = c }

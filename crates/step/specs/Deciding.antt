@@ -1,6 +1,6 @@
 -- What a call decides, on numbers, before a lent byte is written: what reception says, the run of bad sums, the job's act (sections 4 to 7).
 -- Assumes nothing.
-use Rattle.core.specs.Prelude.{ℕ, Bool, false}
+use Rattle.std.specs.Prelude.{ℕ, Bool, false}
 use Rattle.rules.specs.Rules.{Rules}
 use Rattle.hearing.specs.declared.hearing.Event.{Event}
 use Rattle.report.specs.declared.Reception.{Reception}

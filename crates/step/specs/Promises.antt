@@ -1,7 +1,7 @@
 -- What the checks of a send and of a session promise the calls: ROOM and their own together.
 -- And which events concern a job: for any other `decide` has a short way.
 -- Assumes nothing.
-use Rattle.core.specs.Prelude.{ℕ, Bool, true, false}
+use Rattle.std.specs.Prelude.{ℕ, Bool, true, false}
 use Rattle.hearing.specs.declared.hearing.Event.{Event}
 use Rattle.hearing.specs.declared.hearing.Event.TheVariants.{Inside, Kept, Skipped, Alone, Ended, TickHunting, TickInside, Aborted}
 use Rattle.report.specs.declared.Sending.{Sending}

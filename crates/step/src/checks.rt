@@ -1,5 +1,5 @@
 // The checks of the link calls (section 3), in their order: the first that is met refuses.
-ghost use Rattle.core.specs.Prelude.{◌≡◌};
+ghost use Rattle.std.specs.Prelude.{◌≡◌};
 ghost use Rattle.step.specs.Checks.{lacks_room};
 ghost use Rattle.step.specs.Promises.{send_checks, session_checks};
 
@@ -7,7 +7,7 @@ use frame::{LINE_ROOM, MAX_BODY, MAX_PARAMETERS, RES};
 use job::{Job, is_open};
 use refusals::Refusal;
 
-#[derive(Drop)]
+#[derive(Clone, Copy)]
 pub enum Checked {
     Passes,
     Refuses(Refusal),

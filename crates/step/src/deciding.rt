@@ -1,6 +1,6 @@
 // One step of the link, on numbers alone: what reception says of an event, the run of bad sums, and the job's act on it.
 // Hearing is no part of it: that way it stays in registers while a call decides.
-ghost use Rattle.core.specs.Prelude.{◌≡◌, ℕ, false};
+ghost use Rattle.std.specs.Prelude.{◌≡◌, ℕ, false};
 ghost use Rattle.rules.specs.Rules.{rules_of};
 ghost use Rattle.rules.specs.declared.Choice.{Choice};
 ghost use Rattle.step.specs.Promises as ways;
@@ -14,7 +14,7 @@ use rules::Choice;
 use sending::{awaited_by, on_event, on_restart};
 
 // What a call decides, before a lent byte is written; hearing and the held frame's length stand beside it.
-#[derive(Drop)]
+#[derive(Clone, Copy)]
 pub struct Outcome {
     pub job: Job,
     // The run of bad sums.

@@ -1,11 +1,13 @@
 // The tally of section 9 (document 01): a byte, heard as the link hears it with no ticks, adds 1 to one count or to none.
+#![tactic(auto)]
+
 ghost use Rattle.std.specs.Prelude.{◌≡◌};
 ghost use Rattle.tally.specs.Tally as spec;
 
 use hearing::{End, Event, Hearing, Single};
 
 // How many of each, in the order printed.
-#[derive(Drop)]
+#[derive(Clone, Copy)]
 pub struct Counts {
     pub ack: u64,
     pub nak: u64,
@@ -18,7 +20,7 @@ pub struct Counts {
 }
 
 // Where the hearing stands, and what has been counted.
-#[derive(Drop)]
+#[derive(Clone, Copy)]
 pub struct Tally {
     pub hearing: Hearing,
     pub counts: Counts,

@@ -19,22 +19,22 @@ use Rattle.timeouts.specs.Timeouts.{ticks_for, set_of, SetTimeouts}
 
 module _ (rxack rxbyte : Millis) (lent : List ℕ) where
   -- the answer and the lent bytes, by what became of the two times
-  pub set-answer : (x y : Converted) → ticks_of rxack ≡ x → ticks_of rxbyte ≡ y → set_of (ticks_of rxack) (ticks_of rxbyte) (length lent) ≡ set_of x y (length lent)
-  set-answer x y p q = ap₂ (λ (x y : Converted). set_of x y (length lent)) p q
+  pub set_answer : (x y : Converted) → ticks_of rxack ≡ x → ticks_of rxbyte ≡ y → set_of (ticks_of rxack) (ticks_of rxbyte) (length lent) ≡ set_of x y (length lent)
+  set_answer x y p q = ap₂ (λ (x y : Converted). set_of x y (length lent)) p q
 
-  pub set-left : (x y : Converted) → ticks_of rxack ≡ x → ticks_of rxbyte ≡ y
+  pub set_left : (x y : Converted) → ticks_of rxack ≡ x → ticks_of rxbyte ≡ y
       → left_by (set_of (ticks_of rxack) (ticks_of rxbyte) (length lent)) (frame_of 0 6 (ticks_for (ticks_of rxack) (ticks_of rxbyte))) lent
       ≡ left_by (set_of x y (length lent)) (frame_of 0 6 (ticks_for x y)) lent
-  set-left x y p q = ap₂ (λ (x y : Converted). left_by (set_of x y (length lent)) (frame_of 0 6 (ticks_for x y)) lent) p q
+  set_left x y p q = ap₂ (λ (x y : Converted). left_by (set_of x y (length lent)) (frame_of 0 6 (ticks_for x y)) lent) p q
 
-  pub first-refused : (k : Refusal) → ticks_of rxack ≡ Refused k → SetTimeouts rxack rxbyte lent (built.Refused refusal.Range) lent
-  first-refused k p = record { answer = sym (set-answer (Refused k) (ticks_of rxbyte) p refl); left = sym (set-left (Refused k) (ticks_of rxbyte) p refl) }
+  pub first_refused : (k : Refusal) → ticks_of rxack ≡ Refused k → SetTimeouts rxack rxbyte lent (built.Refused refusal.Range) lent
+  first_refused k p = record { answer = sym (set_answer (Refused k) (ticks_of rxbyte) p refl); left = sym (set_left (Refused k) (ticks_of rxbyte) p refl) }
 
-  pub second-refused : (a : Ticks10) (k : Refusal) → ticks_of rxack ≡ Ticks a → ticks_of rxbyte ≡ Refused k
+  pub second_refused : (a : Ticks10) (k : Refusal) → ticks_of rxack ≡ Ticks a → ticks_of rxbyte ≡ Refused k
       → SetTimeouts rxack rxbyte lent (built.Refused refusal.Range) lent
-  second-refused a k p q = record { answer = sym (set-answer (Ticks a) (Refused k) p q); left = sym (set-left (Ticks a) (Refused k) p q) }
+  second_refused a k p q = record { answer = sym (set_answer (Ticks a) (Refused k) p q); left = sym (set_left (Ticks a) (Refused k) p q) }
 
-  pub both-taken : (a b : Ticks10) (r : Built) (lent' : List ℕ) → ticks_of rxack ≡ Ticks a → ticks_of rxbyte ≡ Ticks b
+  pub both_taken : (a b : Ticks10) (r : Built) (lent' : List ℕ) → ticks_of rxack ≡ Ticks a → ticks_of rxbyte ≡ Ticks b
       → Build 0 6 (a.0 ∷ b.0 ∷ []) lent r lent' → SetTimeouts rxack rxbyte lent r lent'
-  both-taken a b r lent' p q e =
-      record { answer = e.answer ∙ sym (set-answer (Ticks a) (Ticks b) p q); left = e.left ∙ sym (set-left (Ticks a) (Ticks b) p q) }
+  both_taken a b r lent' p q e =
+      record { answer = e.answer ∙ sym (set_answer (Ticks a) (Ticks b) p q); left = e.left ∙ sym (set_left (Ticks a) (Ticks b) p q) }

@@ -1,6 +1,6 @@
 -- What holds of the timeouts and of the promises of this crate, over all inputs (documents 01, sections 3, 8, 10 and 12; 02, P5).
 --     set_timeouts_determined, read_timeouts_determined, write_timeouts_determined    each promise fixes its answer and every lent byte
---     set-builds, set_reads, timeouts-back        the frame that sets the two times, and its response
+--     set_builds, set_reads, timeouts_back        the frame that sets the two times, and its response
 --     timeouts_told, set_range, set_room, set_told, write_range, write_timeouts_told    section 3's numbers, RANGE before ROOM
 --     timeouts_example, range_edges               the worked examples
 --     times_written          two times of ticks are written as the body that the reader is asked of
@@ -33,7 +33,7 @@ use Rattle.reading.proofs.Theorems.{build_reads}
 use Rattle.masks.specs.Written.{written_told, Write}
 use Rattle.masks.specs.declared.written.Written.{Written}
 use Rattle.masks.specs.declared.written.Written.TheVariants as written
-use Rattle.masks.proofs.Theorems.{write-taken, refuses-alike, written_stands}
+use Rattle.masks.proofs.Theorems.{write_taken, refuses_alike, written_stands}
 use Rattle.units.specs.Units.{ticks_of}
 use Rattle.units.specs.declared.Millis.{Millis}
 use Rattle.units.specs.declared.Ticks10.{Ticks10}
@@ -44,8 +44,8 @@ use Rattle.timeouts.specs.Timeouts.{ticks_for, set_of, SetTimeouts, is_old_timeo
 use Rattle.timeouts.specs.Writer.{timeouts_written, WriteTimeouts}
 use Rattle.timeouts.specs.declared.OldTimeouts.{OldTimeouts}
 use Rattle.timeouts.specs.declared.OldTimeouts.TheVariants as old
-use Rattle.timeouts.proofs.Setting.{set-answer, set-left}
-use Rattle.timeouts.proofs.Writing.{written-answer, written-left}
+use Rattle.timeouts.proofs.Setting.{set_answer, set_left}
+use Rattle.timeouts.proofs.Writing.{written_answer, written_left}
 
 -- ---- Section 12: each promise determines its answer and every lent byte after the call, refusals too
 
@@ -64,15 +64,15 @@ write_timeouts_determined a b = (fixed a.answer b.answer, fixed a.left b.left)
 
 module _ (rxack rxbyte : Millis) (a b : Ticks10) (p : ticks_of rxack ≡ converted.Ticks a) (q : ticks_of rxbyte ≡ converted.Ticks b) where
   -- the frame is the one that `build` gives for REQ 06 with the two numbers of ticks
-  pub set-builds : (lent : List ℕ) (r : Built) (lent' : List ℕ) → SetTimeouts rxack rxbyte lent r lent' → Build 0 6 (a.0 ∷ b.0 ∷ []) lent r lent'
-  set-builds lent r lent' s = record {
-    answer = s.answer ∙ set-answer rxack rxbyte lent (converted.Ticks a) (converted.Ticks b) p q;
-    left = s.left ∙ set-left rxack rxbyte lent (converted.Ticks a) (converted.Ticks b) p q;
+  pub set_builds : (lent : List ℕ) (r : Built) (lent' : List ℕ) → SetTimeouts rxack rxbyte lent r lent' → Build 0 6 (a.0 ∷ b.0 ∷ []) lent r lent'
+  set_builds lent r lent' s = record {
+    answer = s.answer ∙ set_answer rxack rxbyte lent (converted.Ticks a) (converted.Ticks b) p q;
+    left = s.left ∙ set_left rxack rxbyte lent (converted.Ticks a) (converted.Ticks b) p q;
   }
 
   -- its RES with the same ticks is answered as the same times
-  pub timeouts-back : read_timeouts (1 ∷ 6 ∷ a.0 ∷ b.0 ∷ []) ≡ old.Were rxack rxbyte
-  timeouts-back = ap₂ (λ (x y : Millis). old.Were x y) (millis_back rxack a p).0 (millis_back rxbyte b q).0
+  pub timeouts_back : read_timeouts (1 ∷ 6 ∷ a.0 ∷ b.0 ∷ []) ≡ old.Were rxack rxbyte
+  timeouts_back = ap₂ (λ (x y : Millis). old.Were x y) (millis_back rxack a p).0 (millis_back rxbyte b q).0
 
 -- what was written for two times, read back
 pub record ReadsBack (rxack rxbyte : Millis) (lent : List ℕ) (m : ℕ) (lent' : List ℕ) : Type 0 where
@@ -91,10 +91,10 @@ set_reads rxack rxbyte lent m lent' s = by (ticks_of rxack) (ticks_of rxbyte) re
     no e = let z : ◌≡◌ {A = ℕ} 0 1 = cc in absurd (omega arith)
 
     by : (x y : Converted) → ticks_of rxack ≡ x → ticks_of rxbyte ≡ y → ReadsBack rxack rxbyte lent m lent'
-    by (converted.Refused k) y p q = no (s.answer ∙ set-answer rxack rxbyte lent (converted.Refused k) y p q)
-    by (converted.Ticks a) (converted.Refused k) p q = no (s.answer ∙ set-answer rxack rxbyte lent (converted.Ticks a) (converted.Refused k) p q)
+    by (converted.Refused k) y p q = no (s.answer ∙ set_answer rxack rxbyte lent (converted.Refused k) y p q)
+    by (converted.Ticks a) (converted.Refused k) p q = no (s.answer ∙ set_answer rxack rxbyte lent (converted.Ticks a) (converted.Refused k) p q)
     by (converted.Ticks a) (converted.Ticks b) p q =
-        let built = set-builds rxack rxbyte a b p q lent (built.Frame m) lent' s in
+        let built = set_builds rxack rxbyte a b p q lent (built.Frame m) lent' s in
         let reads = build_reads 0 6 (a.0 ∷ b.0 ∷ []) lent m lent' built in
         record {
           size = (build_accepts 0 2 (length lent) m (sym built.answer)).3;
@@ -196,8 +196,8 @@ pub times_written : (rxack rxbyte : Millis) (a b : Ticks10) → ticks_of rxack �
     → (lent : List ℕ) (r : Written) (lent' : List ℕ) → WriteTimeouts rxack rxbyte lent r lent'
     → Write (is_old_timeouts (1 ∷ 6 ∷ a.0 ∷ b.0 ∷ [])) (1 ∷ 6 ∷ a.0 ∷ b.0 ∷ []) lent r lent'
 times_written rxack rxbyte a b p q lent r lent' s = record {
-  answer = s.answer ∙ written-answer rxack rxbyte lent (converted.Ticks a) (converted.Ticks b) p q;
-  left = s.left ∙ written-left rxack rxbyte lent (converted.Ticks a) (converted.Ticks b) p q;
+  answer = s.answer ∙ written_answer rxack rxbyte lent (converted.Ticks a) (converted.Ticks b) p q;
+  left = s.left ∙ written_left rxack rxbyte lent (converted.Ticks a) (converted.Ticks b) p q;
 }
 
 -- RANGE is said of the same times as in the frame that sets them, whatever the room of either
@@ -230,10 +230,10 @@ timeouts_alike rxack rxbyte a b p q lent r lent' s room =
     let body : List ℕ = 1 ∷ 6 ∷ a.0 ∷ b.0 ∷ [] in
     let w = times_written rxack rxbyte a b p q lent r lent' s in (
       λ k. (
-        λ e. (reads_refused body k).1 ((refuses-alike w room k).0 e),
-        λ e. (refuses-alike w room k).1 ((reads_refused body k).0 e),
+        λ e. (reads_refused body k).1 ((refuses_alike w room k).0 e),
+        λ e. (refuses_alike w room k).1 ((reads_refused body k).0 e),
       ),
-      (write-taken w room refl).0,
+      (write_taken w room refl).0,
     )
 
 -- what was written for two times, read back
@@ -250,8 +250,8 @@ written_timeouts_back rxack rxbyte lent n lent' s = by (ticks_of rxack) (ticks_o
     no e = let z : ◌≡◌ {A = ℕ} 0 1 = cc in absurd (omega arith)
 
     by : (x y : Converted) → ticks_of rxack ≡ x → ticks_of rxbyte ≡ y → TimeoutsBack rxack rxbyte lent n lent'
-    by (converted.Refused k) y p q = no (s.answer ∙ written-answer rxack rxbyte lent (converted.Refused k) y p q)
-    by (converted.Ticks a) (converted.Refused k) p q = no (s.answer ∙ written-answer rxack rxbyte lent (converted.Ticks a) (converted.Refused k) p q)
+    by (converted.Refused k) y p q = no (s.answer ∙ written_answer rxack rxbyte lent (converted.Refused k) y p q)
+    by (converted.Ticks a) (converted.Refused k) p q = no (s.answer ∙ written_answer rxack rxbyte lent (converted.Ticks a) (converted.Refused k) p q)
     by (converted.Ticks a) (converted.Ticks b) p q =
         let stands = written_stands (times_written rxack rxbyte a b p q lent (written.Body n) lent' s) in
-        record { size = stands.size; answer = ap read_timeouts stands.front ∙ timeouts-back rxack rxbyte a b p q; beyond = stands.beyond }
+        record { size = stands.size; answer = ap read_timeouts stands.front ∙ timeouts_back rxack rxbyte a b p q; beyond = stands.beyond }

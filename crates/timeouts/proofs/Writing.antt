@@ -23,27 +23,27 @@ use Rattle.timeouts.specs.Writer.{timeouts_body, timeouts_written, WriteTimeouts
 
 module _ (rxack rxbyte : Millis) (lent : List ℕ) where
   -- the answer and the lent bytes, by what became of the two times
-  pub written-answer : (x y : Converted) → ticks_of rxack ≡ x → ticks_of rxbyte ≡ y
+  pub written_answer : (x y : Converted) → ticks_of rxack ≡ x → ticks_of rxbyte ≡ y
       → timeouts_written (ticks_of rxack) (ticks_of rxbyte) (length lent) ≡ timeouts_written x y (length lent)
-  written-answer x y p q = ap₂ (λ (x y : Converted). timeouts_written x y (length lent)) p q
+  written_answer x y p q = ap₂ (λ (x y : Converted). timeouts_written x y (length lent)) p q
 
-  pub written-left : (x y : Converted) → ticks_of rxack ≡ x → ticks_of rxbyte ≡ y
+  pub written_left : (x y : Converted) → ticks_of rxack ≡ x → ticks_of rxbyte ≡ y
       → body_left (timeouts_written (ticks_of rxack) (ticks_of rxbyte) (length lent)) (timeouts_body (ticks_of rxack) (ticks_of rxbyte)) lent
       ≡ body_left (timeouts_written x y (length lent)) (timeouts_body x y) lent
-  written-left x y p q = ap₂ (λ (x y : Converted). body_left (timeouts_written x y (length lent)) (timeouts_body x y) lent) p q
+  written_left x y p q = ap₂ (λ (x y : Converted). body_left (timeouts_written x y (length lent)) (timeouts_body x y) lent) p q
 
-  pub first-refused : (k : Refusal) → ticks_of rxack ≡ Refused k → WriteTimeouts rxack rxbyte lent (written.Refused refusal.Range) lent
-  first-refused k p =
-      record { answer = sym (written-answer (Refused k) (ticks_of rxbyte) p refl); left = sym (written-left (Refused k) (ticks_of rxbyte) p refl) }
+  pub first_refused : (k : Refusal) → ticks_of rxack ≡ Refused k → WriteTimeouts rxack rxbyte lent (written.Refused refusal.Range) lent
+  first_refused k p =
+      record { answer = sym (written_answer (Refused k) (ticks_of rxbyte) p refl); left = sym (written_left (Refused k) (ticks_of rxbyte) p refl) }
 
-  pub second-refused : (a : Ticks10) (k : Refusal) → ticks_of rxack ≡ Ticks a → ticks_of rxbyte ≡ Refused k
+  pub second_refused : (a : Ticks10) (k : Refusal) → ticks_of rxack ≡ Ticks a → ticks_of rxbyte ≡ Refused k
       → WriteTimeouts rxack rxbyte lent (written.Refused refusal.Range) lent
-  second-refused a k p q = record { answer = sym (written-answer (Ticks a) (Refused k) p q); left = sym (written-left (Ticks a) (Refused k) p q) }
+  second_refused a k p q = record { answer = sym (written_answer (Ticks a) (Refused k) p q); left = sym (written_left (Ticks a) (Refused k) p q) }
 
-  pub both-written : (a b : Ticks10) (r : Written) (lent' : List ℕ) {reads : Bool} → ticks_of rxack ≡ Ticks a → ticks_of rxbyte ≡ Ticks b
+  pub both_written : (a b : Ticks10) (r : Written) (lent' : List ℕ) {reads : Bool} → ticks_of rxack ≡ Ticks a → ticks_of rxbyte ≡ Ticks b
       → reads ≡ is_old_timeouts (1 ∷ 6 ∷ a.0 ∷ b.0 ∷ [])
       → Write (carried reads (1 ∷ 6 ∷ a.0 ∷ b.0 ∷ [])) (1 ∷ 6 ∷ a.0 ∷ b.0 ∷ []) lent r lent'
       → WriteTimeouts rxack rxbyte lent r lent'
-  both-written a b r lent' p q e w =
+  both_written a b r lent' p q e w =
       let taken = asked is_old_timeouts (1 ∷ 6 ∷ a.0 ∷ b.0 ∷ []) (1 ∷ 6 ∷ a.0 ∷ b.0 ∷ []) lent e refl (omega arith) w in
-      record { answer = taken.answer ∙ sym (written-answer (Ticks a) (Ticks b) p q); left = taken.left ∙ sym (written-left (Ticks a) (Ticks b) p q) }
+      record { answer = taken.answer ∙ sym (written_answer (Ticks a) (Ticks b) p q); left = taken.left ∙ sym (written_left (Ticks a) (Ticks b) p q) }

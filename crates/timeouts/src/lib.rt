@@ -1,4 +1,6 @@
 // Set Timeouts, command 06, and its RES, read and written (document 01, section 8; 002, 7.5).
+#![tactic(auto)]
+
 mod writer;
 
 ghost use Rattle.std.specs.Prelude.{◌≡◌};
@@ -13,7 +15,7 @@ pub use writer::write_timeouts;
 // The command.
 const SET_TIMEOUTS: u8 = 0x06;
 
-#[derive(Drop)]
+#[derive(Clone, Copy)]
 pub enum OldTimeouts {
     Refused(Refusal),
     Were { rxack: Millis, rxbyte: Millis },

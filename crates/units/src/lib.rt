@@ -1,18 +1,20 @@
 // The two units of time (document 01, section 5), kept apart in every interface.
+#![tactic(auto)]
+
 ghost use Rattle.std.specs.Prelude.{◌≡◌};
 ghost use Rattle.units.specs.Units.{ticks_of, millis_of};
 
 use refusals::Refusal;
 
 // Milliseconds: what the link counts in.
-#[derive(Drop)]
+#[derive(Clone, Copy)]
 pub struct Millis(pub u32);
 
 // Ticks of 10 ms: what the Set Timeouts command counts in.
-#[derive(Drop)]
+#[derive(Clone, Copy)]
 pub struct Ticks10(pub u8);
 
-#[derive(Drop)]
+#[derive(Clone, Copy)]
 pub enum Converted {
     Refused(Refusal),
     Ticks(Ticks10),
