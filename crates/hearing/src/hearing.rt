@@ -273,8 +273,8 @@ pub fn is_hunting(hearing: Hearing) -> bool
     }
 }
 
-// A body byte is kept at its place. The guard is for links that no call makes. (The length is what the type says; the logic
-// does not know it of an array behind a reference.)
+// A body byte is kept at its place. The guard is for links that no call makes. (The length is what the type says; the promises
+// ask for it all the same, since an older Rattle did not know it of an array behind a reference.)
 pub fn keep(body: &mut [u8; MAX_BODY], event: Event, b: u8)
     ensures { length body.old ≡ frames.MAX_BODY → body.new ≡ spec.keep event b body.old }
 {

@@ -1,5 +1,5 @@
 -- Section 10: the examples with a star, in the document's order and words; the times of three of them are those of document 02, P2 (5 bytes take
--- a tick on the wire), and the silent_line cases name the old mode (P4). A tick's number is that of the accepted ticks so far.
+-- a tick on the wire), and the silent-line cases name the old mode (P4). A tick's number is that of the accepted ticks so far.
 -- Assumes nothing.
 use Rattle.std.specs.Prelude.{ℕ, List, [], ◌∷◌, ◌++◌, replicate}
 use Rattle.frame.specs.declared.builder.Built.TheVariants.{Frame}
