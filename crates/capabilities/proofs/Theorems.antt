@@ -14,24 +14,21 @@ use mathlib.Core.Logic.{◌↔◌}
 use Prim.Native.Nat.{ℕ, ◌+◌, ◌≤◌, ◌<◌}
 use native.Mathlib.Omega.{arith}
 use lib.Dec.{ltb}
-use lib.ListN.{length, get_or, take, drop, length-drop}
+use lib.ListN.{length, take, drop, length-drop}
 use borrow.Author.Tests.{le-ltb, ltb-false}
+use Rattle.std.specs.Prelude.{Result, Ok, Err}
 use Rattle.refusals.specs.Pick.{pick}
 use Rattle.refusals.specs.declared.Refusal.{Refusal}
 use Rattle.refusals.specs.declared.Refusal.TheVariants as refusal
-use Rattle.refusals.proofs.Picks.{picked_first, through}
+use Rattle.refusals.proofs.Picks.{picked_first, through, err_not_ok, refused_by}
 use Rattle.refusals.proofs.Theorems.{fixed}
 use Rattle.frame.specs.Bytes.{over}
 use Rattle.masks.specs.Written.{written_told}
-use Rattle.masks.specs.declared.written.Written.{Written}
-use Rattle.masks.specs.declared.written.Written.TheVariants as written
 use Rattle.masks.specs.Mask.{bit_of, is_marked, marked, ones_in, Rising, Bytes}
-use Rattle.capabilities.specs.Capabilities.{word, function_mask, is_capabilities, supported, capabilities_of, capabilities_told, read_capabilities, support_told, supports}
+use Rattle.capabilities.specs.Capabilities.{word, identity_of, function_mask, is_capabilities, supported, capabilities_of, capabilities_told, read_capabilities, support_told, supports}
 use Rattle.capabilities.specs.Writer.{high_byte, low_byte, capabilities_body, WriteCapabilities}
+use Rattle.capabilities.specs.declared.Identity.{Identity}
 use Rattle.capabilities.specs.declared.Capabilities.{Capabilities}
-use Rattle.capabilities.specs.declared.Capabilities.TheVariants as capabilities
-use Rattle.capabilities.specs.declared.Support.{Support}
-use Rattle.capabilities.specs.declared.Support.TheVariants as support
 use Rattle.masks.proofs.Layouts.{bytes_from, unmet}
 use Rattle.masks.proofs.Theorems.{write_determined, write_told, write_taken, write_refused, refuses_alike, written_stands}
 use Rattle.capabilities.proofs.Layouts.{of_capabilities, capabilities_yes, answer_by}
@@ -41,29 +38,23 @@ use Rattle.masks.proofs.Masks.{ones_supported}
 
 -- ---- Section 12: each promise determines its answer and every lent byte after the call, refusals too
 
-pub read_capabilities_determined : (body : List ℕ) {r q : Capabilities} → r ≡ read_capabilities body → q ≡ read_capabilities body → r ≡ q
+pub read_capabilities_determined : (body : List ℕ) {r q : Result Capabilities Refusal} → r ≡ read_capabilities body → q ≡ read_capabilities body → r ≡ q
 read_capabilities_determined body = fixed
 
-pub supports_determined : (body : List ℕ) (f : ℕ) {r q : Support} → r ≡ supports body f → q ≡ supports body f → r ≡ q
+pub supports_determined : (body : List ℕ) (f : ℕ) {r q : Result Bool Refusal} → r ≡ supports body f → q ≡ supports body f → r ≡ q
 supports_determined body f = fixed
 
-pub write_capabilities_determined : {body lent : List ℕ} {r q : Written} {l m : List ℕ} → WriteCapabilities body lent r l → WriteCapabilities body lent q m
+pub write_capabilities_determined : {body lent : List ℕ} {r q : Result ℕ Refusal} {l m : List ℕ} → WriteCapabilities body lent r l → WriteCapabilities body lent q m
     → (r ≡ q) × (l ≡ m)
 write_capabilities_determined = write_determined
 
 -- ---- capabilities
 
-not_refused : {k : Refusal} → support.Refused k ≡ support.Supported → ⊥
-not_refused e = let z : ◌≡◌ {A = ℕ} 0 1 = cc in omega arith
-
-not_unsupported : support.Unsupported ≡ support.Supported → ⊥
-not_unsupported e = let z : ◌≡◌ {A = ℕ} 0 1 = cc in omega arith
-
 -- a function is supported exactly if it is marked in a body of the layout
-support_marks : (body : List ℕ) (f : ℕ) → (supports body f ≡ support.Supported) ↔ ((is_capabilities body ≡ true) × (is_marked (function_mask body) f ≡ true))
+support_marks : (body : List ℕ) (f : ℕ) → (supports body f ≡ Ok true) ↔ ((is_capabilities body ≡ true) × (is_marked (function_mask body) f ≡ true))
 support_marks body f = (
-  λ e. let layout = picked_first (is_capabilities body) not_refused e in
-      (layout.0, (picked_first (is_marked (function_mask body) f) not_unsupported layout.1).0),
+  λ e. let layout = picked_first (is_capabilities body) err_not_ok e in
+      (layout.0, cc),
   λ (h, e). rw (h, e),
 )
 
@@ -72,7 +63,7 @@ few body e = let layout = of_capabilities body e in omega (arith, length-drop 10
 
 -- function f is supported exactly if f is 1 to 255 and its bit is 1
 pub supported_exactly : (body : List ℕ) (f : ℕ)
-    → (supports body f ≡ support.Supported) ↔ ((is_capabilities body ≡ true) × (1 ≤ f) × (f ≤ 255) × (bit_of (function_mask body) f ≡ 1))
+    → (supports body f ≡ Ok true) ↔ ((is_capabilities body ≡ true) × (1 ≤ f) × (f ≤ 255) × (bit_of (function_mask body) f ≡ 1))
 supported_exactly body f = (
   λ e.
       let h = (support_marks body f).0 e in
@@ -85,7 +76,7 @@ supported_exactly body f = (
 pub supported_counts : (body : List ℕ) → is_capabilities body ≡ true
     → (supported body ≡ length (marked (function_mask body) 255))
     × Rising (marked (function_mask body) 255)
-    × ((f : ℕ) → Memᴰ f (marked (function_mask body) 255) ↔ (supports body f ≡ support.Supported))
+    × ((f : ℕ) → Memᴰ f (marked (function_mask body) 255) ↔ (supports body f ≡ Ok true))
 supported_counts body e = (
   refl,
   marked_rising (function_mask body) 255,
@@ -102,28 +93,26 @@ ones_are_supported body bytes e = ones_supported (function_mask body) (bytes_fro
 -- so the answer holds the number of one bits
 pub answer_holds_ones : (body : List ℕ) → Bytes body → is_capabilities body ≡ true
     → read_capabilities body
-    ≡ capabilities.Answer
-    (get_or body 2 0)
-    (get_or body 3 0)
-    (word (get_or body 4 0) (get_or body 5 0))
-    (word (get_or body 6 0) (get_or body 7 0))
-    (word (get_or body 8 0) (get_or body 9 0))
-    (ones_in (function_mask body))
+    ≡ Ok (record { identity = identity_of body; supported = ones_in (function_mask body) })
 answer_holds_ones body bytes e = rw (ones_are_supported body bytes e) (capabilities_yes body e)
 
 -- ---- Section 3: the number of each refusal alone, and 0 with the values of each answer
 
 pub capabilities_told_lem : (body : List ℕ)
-    → capabilities_told (read_capabilities body) ≡ pick (is_capabilities body) (capabilities_told (capabilities_of body)) (10 ∷ [])
-capabilities_told_lem body = through capabilities_told (is_capabilities body) (capabilities_of body) (capabilities.Refused refusal.Form)
+    → capabilities_told (read_capabilities body) ≡ pick (is_capabilities body) (capabilities_told (Ok (capabilities_of body))) (10 ∷ [])
+capabilities_told_lem body = through capabilities_told (is_capabilities body) (Ok (capabilities_of body)) (Err refusal.Form)
 
 pub support_told_lem : (body : List ℕ) (f : ℕ)
     → support_told (supports body f) ≡ pick (is_capabilities body) (pick (is_marked (function_mask body) f) (0 ∷ 1 ∷ []) (0 ∷ 0 ∷ [])) (10 ∷ [])
 support_told_lem body f =
-    through support_told (is_capabilities body) (pick (is_marked (function_mask body) f) support.Supported support.Unsupported) (support.Refused refusal.Form)
-    ∙ ap (λ (x : List ℕ). pick (is_capabilities body) x (10 ∷ [])) (through support_told (is_marked (function_mask body) f) support.Supported support.Unsupported)
+    through support_told (is_capabilities body) (Ok (is_marked (function_mask body) f)) (Err refusal.Form)
+    ∙ ap (λ (x : List ℕ). pick (is_capabilities body) x (10 ∷ [])) (by (is_marked (function_mask body) f))
+  where
+    by : (t : Bool) → support_told (Ok t) ≡ pick t (0 ∷ 1 ∷ []) (0 ∷ 0 ∷ [])
+    by true = refl
+    by false = refl
 
-pub write_capabilities_told : {body lent : List ℕ} {r : Written} {lent' : List ℕ} → WriteCapabilities body lent r lent'
+pub write_capabilities_told : {body lent : List ℕ} {r : Result ℕ Refusal} {lent' : List ℕ} → WriteCapabilities body lent r lent'
     → written_told r ≡ pick (ltb (length lent) 254) (1 ∷ []) (pick (is_capabilities body) (0 ∷ length body ∷ []) (10 ∷ []))
 write_capabilities_told = write_told
 
@@ -136,15 +125,15 @@ number_back number h = (omega arith, omega arith, omega arith)
 word_back : (number : ℕ) → word (high_byte number) (low_byte number) ≡ number
 word_back number = omega arith
 
-module _ (version revision manufacturer productType productId : ℕ) (mask : List ℕ) where
+module _ (identity : Identity) (mask : List ℕ) where
   abbrev whole : List ℕ
-  whole = capabilities_body version revision manufacturer productType productId mask
+  whole = capabilities_body identity mask
 
   -- the body's own tests, but for those of the mask, are met
   taken_by_lem : is_capabilities whole ≡ pick (ltb 42 (length whole)) false (pick (is_marked mask 256) false true)
   unfolding capabilities_body
   taken_by_lem =
-      let size = body_length version revision manufacturer productType productId mask in
+      let size = body_length identity mask in
       ap₂
       (λ (t u : Bool). pick (pick t false true) (pick u false (pick (ltb 42 (length whole)) false (pick (is_marked mask 256) false true))) false)
       (le-ltb (length whole) 2 (omega arith))
@@ -153,7 +142,7 @@ module _ (version revision manufacturer productType productId : ℕ) (mask : Lis
   -- 0 to 32 mask bytes, and the bit for 256 is 0
   pub mask_taken : (is_capabilities whole ≡ true) ↔ ((length mask ≤ 32) × (is_marked mask 256 ≡ false))
   mask_taken =
-      let size = body_length version revision manufacturer productType productId mask in (
+      let size = body_length identity mask in (
         λ e.
             let few = unmet (ltb 42 (length whole)) (sym taken_by_lem ∙ e) in
             let h : length whole ≤ 42 = ltb-false 42 (length whole) few.0 in
@@ -162,7 +151,7 @@ module _ (version revision manufacturer productType productId : ℕ) (mask : Lis
       )
 
   mask_long : 32 < length mask → is_capabilities whole ≡ false
-  mask_long h = long_refused whole (omega (arith, body_length version revision manufacturer productType productId mask))
+  mask_long h = long_refused whole (omega (arith, body_length identity mask))
 
   mask_marked : is_marked mask 256 ≡ true → is_capabilities whole ≡ false
   mask_marked e = taken_by_lem ∙ rw e (neither_by (ltb 42 (length whole)))
@@ -171,76 +160,71 @@ module _ (version revision manufacturer productType productId : ℕ) (mask : Lis
       neither_by true = refl
       neither_by false = refl
 
-  module _ {lent : List ℕ} {r : Written} {lent' : List ℕ} (w : WriteCapabilities whole lent r lent') (room : 254 ≤ length lent) where
+  module _ {lent : List ℕ} {r : Result ℕ Refusal} {lent' : List ℕ} (w : WriteCapabilities whole lent r lent') (room : 254 ≤ length lent) where
     -- more than 32 mask bytes are FORM, and so is function 256
-    pub mask_of_33 : 32 < length mask → (r ≡ written.Refused refusal.Form) × (lent' ≡ lent)
+    pub mask_of_33 : 32 < length mask → (r ≡ Err refusal.Form) × (lent' ≡ lent)
     mask_of_33 h = write_refused w room (mask_long h)
 
-    pub mask_of_256 : is_marked mask 256 ≡ true → (r ≡ written.Refused refusal.Form) × (lent' ≡ lent)
+    pub mask_of_256 : is_marked mask 256 ≡ true → (r ≡ Err refusal.Form) × (lent' ≡ lent)
     mask_of_256 e = write_refused w room (mask_marked e)
 
     -- up to 32 with the bit for 256 zero are written, and none too
-    pub mask_of_32 : length mask ≤ 32 → is_marked mask 256 ≡ false → (r ≡ written.Body (10 + length mask)) × (lent' ≡ over whole lent)
+    pub mask_of_32 : length mask ≤ 32 → is_marked mask 256 ≡ false → (r ≡ Ok (10 + length mask)) × (lent' ≡ over whole lent)
     mask_of_32 h e =
         let stands = write_taken w room (mask_taken.1 (h, e)) in
-        (stands.0 ∙ ap (λ (n : ℕ). written.Body n) (body_length version revision manufacturer productType productId mask), stands.1)
+        (stands.0 ∙ ap (λ (n : ℕ). Ok n) (body_length identity mask), stands.1)
 
-    pub no_mask : mask ≡ [] → r ≡ written.Body 10
+    pub no_mask : mask ≡ [] → r ≡ Ok 10
     no_mask e =
         (mask_of_32 (omega (arith, ap length e)) (ap (λ (m : List ℕ). is_marked m 256) e)).0
-        ∙ ap (λ (m : List ℕ). written.Body (10 + length m)) e
+        ∙ ap (λ (m : List ℕ). Ok (10 + length m)) e
 
 -- the reader refuses by FORM alone
-reads_refused : (body : List ℕ) (k : Refusal) → (read_capabilities body ≡ capabilities.Refused k) ↔ ((is_capabilities body ≡ false) × (k ≡ refusal.Form))
-reads_refused body k = by (is_capabilities body)
-  where
-    by : (t : Bool) → (pick t (capabilities_of body) (capabilities.Refused refusal.Form) ≡ capabilities.Refused k) ↔ ((t ≡ false) × (k ≡ refusal.Form))
-    by true = (λ e. let z : ◌≡◌ {A = ℕ} 0 1 = cc in absurd (omega arith), λ e. let z : ◌≡◌ {A = ℕ} 0 1 = cc in absurd (omega arith))
-    by false = (λ e. (refl, cc), λ e. ap capabilities.Refused (sym e.1))
+reads_refused : (body : List ℕ) (k : Refusal) → (read_capabilities body ≡ Err k) ↔ ((is_capabilities body ≡ false) × (k ≡ refusal.Form))
+reads_refused body k = refused_by (is_capabilities body) (capabilities_of body) refusal.Form k
 
 -- with room the writer refuses what its reader refuses, and by the same refusal
-pub capabilities_alike : {body lent : List ℕ} {r : Written} {lent' : List ℕ} → WriteCapabilities body lent r lent' → 254 ≤ length lent
-    → (k : Refusal) → (r ≡ written.Refused k) ↔ (read_capabilities body ≡ capabilities.Refused k)
+pub capabilities_alike : {body lent : List ℕ} {r : Result ℕ Refusal} {lent' : List ℕ} → WriteCapabilities body lent r lent' → 254 ≤ length lent
+    → (k : Refusal) → (r ≡ Err k) ↔ (read_capabilities body ≡ Err k)
 capabilities_alike {body} w room k = (
   λ e. (reads_refused body k).1 ((refuses_alike w room k).0 e),
   λ e. (refuses_alike w room k).1 ((reads_refused body k).0 e),
 )
 
 -- what was written for these values, read back
-pub record CapabilitiesBack (version revision manufacturer productType productId : ℕ) (mask lent : List ℕ) (n : ℕ) (lent' : List ℕ) : Type 0 where
+pub record CapabilitiesBack (identity : Identity) (mask lent : List ℕ) (n : ℕ) (lent' : List ℕ) : Type 0 where
   pub size : n ≡ 10 + length mask
   pub most : n ≤ 42
-  pub answer : read_capabilities (take n lent') ≡ capabilities.Answer version revision manufacturer productType productId (length (marked mask 255))
-  pub functions : (f : ℕ) → supports (take n lent') f ≡ pick (is_marked mask f) support.Supported support.Unsupported
+  pub answer : read_capabilities (take n lent') ≡ Ok (record { identity = identity; supported = length (marked mask 255) })
+  pub functions : (f : ℕ) → supports (take n lent') f ≡ Ok (is_marked mask f)
   pub beyond : drop n lent' ≡ drop n lent
 
 -- the answer to a body that is taken: its values, each number of two bytes put together again
-whole_answer : (version revision manufacturer productType productId : ℕ) (mask : List ℕ)
-    → capabilities_of (capabilities_body version revision manufacturer productType productId mask)
-    ≡ capabilities.Answer version revision manufacturer productType productId (length (marked mask 255))
+whole_answer : (identity : Identity) (mask : List ℕ)
+    → capabilities_of (capabilities_body identity mask) ≡ record { identity = identity; supported = length (marked mask 255) }
 unfolding capabilities_body
-whole_answer version revision manufacturer productType productId mask = answer_by (word_back manufacturer) (word_back productType) (word_back productId) refl
+whole_answer identity mask = answer_by (word_back identity.manufacturer) (word_back identity.product_type) (word_back identity.product_id) refl
 
-whole_mask : (version revision manufacturer productType productId : ℕ) (mask : List ℕ)
-    → function_mask (capabilities_body version revision manufacturer productType productId mask) ≡ mask
+whole_mask : (identity : Identity) (mask : List ℕ)
+    → function_mask (capabilities_body identity mask) ≡ mask
 unfolding capabilities_body
-whole_mask version revision manufacturer productType productId mask = refl
+whole_mask identity mask = refl
 
-pub capabilities_back : (version revision manufacturer productType productId : ℕ) (mask lent : List ℕ) (n : ℕ) (lent' : List ℕ)
-    → WriteCapabilities (capabilities_body version revision manufacturer productType productId mask) lent (written.Body n) lent'
-    → CapabilitiesBack version revision manufacturer productType productId mask lent n lent'
-capabilities_back version revision manufacturer productType productId mask lent n lent' w =
-    let body = capabilities_body version revision manufacturer productType productId mask in
+pub capabilities_back : (identity : Identity) (mask lent : List ℕ) (n : ℕ) (lent' : List ℕ)
+    → WriteCapabilities (capabilities_body identity mask) lent (Ok n) lent'
+    → CapabilitiesBack identity mask lent n lent'
+capabilities_back identity mask lent n lent' w =
+    let body = capabilities_body identity mask in
     let stands = written_stands w in
-    let few = ((mask_taken version revision manufacturer productType productId mask).0 stands.taken).0 in
-    let size = body_length version revision manufacturer productType productId mask in
+    let few = ((mask_taken identity mask).0 stands.taken).0 in
+    let size = body_length identity mask in
     record {
       size = stands.size ∙ size;
       most = omega (arith, stands.size, size, few);
-      answer = ap read_capabilities stands.front ∙ capabilities_yes body stands.taken ∙ whole_answer version revision manufacturer productType productId mask;
+      answer = ap read_capabilities stands.front ∙ capabilities_yes body stands.taken ∙ ap Ok (whole_answer identity mask);
       functions = λ f.
           ap (λ (b : List ℕ). supports b f) stands.front
-          ∙ ap (λ (t : Bool). pick t (pick (is_marked (function_mask body) f) support.Supported support.Unsupported) (support.Refused refusal.Form)) stands.taken
-          ∙ ap (λ (m : List ℕ). pick (is_marked m f) support.Supported support.Unsupported) (whole_mask version revision manufacturer productType productId mask);
+          ∙ ap (λ (t : Bool). pick t (Ok (is_marked (function_mask body) f)) (Err refusal.Form)) stands.taken
+          ∙ ap (λ (m : List ℕ). Ok (is_marked m f)) (whole_mask identity mask);
       beyond = stands.beyond;
     }

@@ -1,15 +1,14 @@
 -- Section 8, Capabilities RES (002, 7.3): 8 fixed bytes, then 0 to 32 mask bytes. The bit for 256 must be 0.
 -- Assumes nothing.
-use Rattle.std.specs.Prelude.{ℕ, ◌+◌, ◌*◌, Bool, true, false, List, [], ◌∷◌, ltb, length, get_or, drop}
+use Rattle.std.specs.Prelude.{ℕ, ◌+◌, ◌*◌, Bool, true, false, List, [], ◌∷◌, ◌++◌, ltb, length, get_or, drop, Result, Ok, Err}
 use Rattle.refusals.specs.Pick.{pick}
 use Rattle.refusals.specs.Refusals.{number_of}
+use Rattle.refusals.specs.declared.Refusal.{Refusal}
 use Rattle.refusals.specs.declared.Refusal.TheVariants as refusal
 use Rattle.masks.specs.Response.{is_response}
 use Rattle.masks.specs.Mask.{is_marked, marked}
 use Rattle.capabilities.specs.declared.Capabilities.{Capabilities}
-use Rattle.capabilities.specs.declared.Capabilities.TheVariants as capabilities
-use Rattle.capabilities.specs.declared.Support.{Support}
-use Rattle.capabilities.specs.declared.Support.TheVariants as support
+use Rattle.capabilities.specs.declared.Identity.{Identity}
 
 -- command 07
 abbrev pub CAPABILITIES : ℕ
@@ -43,33 +42,36 @@ abbrev pub supported : List ℕ → ℕ
 supported body = length (marked (function_mask body) 255)
 
 -- the eight fixed bytes: version, revision, then manufacturer, product type and product id as numbers of two bytes
+abbrev pub identity_of : List ℕ → Identity
+identity_of body = record {
+  version = get_or body 2 0;
+  revision = get_or body 3 0;
+  manufacturer = word (get_or body 4 0) (get_or body 5 0);
+  product_type = word (get_or body 6 0) (get_or body 7 0);
+  product_id = word (get_or body 8 0) (get_or body 9 0);
+}
+
 abbrev pub capabilities_of : List ℕ → Capabilities
-capabilities_of body =
-    capabilities.Answer
-    (get_or body 2 0)
-    (get_or body 3 0)
-    (word (get_or body 4 0) (get_or body 5 0))
-    (word (get_or body 6 0) (get_or body 7 0))
-    (word (get_or body 8 0) (get_or body 9 0))
-    (supported body)
+capabilities_of body = record { identity = identity_of body; supported = supported body }
+
+-- the values of what the fixed bytes say
+abbrev pub identity_told : Identity → List ℕ
+identity_told i = i.version ∷ i.revision ∷ i.manufacturer ∷ i.product_type ∷ i.product_id ∷ []
 
 -- the number of the refusal; of an answer 0 and its values
-abbrev pub capabilities_told : Capabilities → List ℕ
-capabilities_told (capabilities.Refused k) = number_of k ∷ []
-capabilities_told (capabilities.Answer v r m t i n) = 0 ∷ v ∷ r ∷ m ∷ t ∷ i ∷ n ∷ []
+abbrev pub capabilities_told : Result Capabilities Refusal → List ℕ
+capabilities_told (Err k) = number_of k ∷ []
+capabilities_told (Ok c) = 0 ∷ (identity_told c.identity ++ (c.supported ∷ []))
 
-abbrev pub read_capabilities : List ℕ → Capabilities
-read_capabilities body = pick (is_capabilities body) (capabilities_of body) (capabilities.Refused refusal.Form)
+abbrev pub read_capabilities : List ℕ → Result Capabilities Refusal
+read_capabilities body = pick (is_capabilities body) (Ok (capabilities_of body)) (Err refusal.Form)
 
 -- the number of the refusal; 0, and 1 for supported
-abbrev pub support_told : Support → List ℕ
-support_told (support.Refused k) = number_of k ∷ []
-support_told support.Supported = 0 ∷ 1 ∷ []
-support_told support.Unsupported = 0 ∷ 0 ∷ []
+abbrev pub support_told : Result Bool Refusal → List ℕ
+support_told (Err k) = number_of k ∷ []
+support_told (Ok true) = 0 ∷ 1 ∷ []
+support_told (Ok false) = 0 ∷ 0 ∷ []
 
 -- one function of a body
-abbrev pub supports : List ℕ → ℕ → Support
-supports body f =
-    pick (is_capabilities body)
-    (pick (is_marked (function_mask body) f) support.Supported support.Unsupported)
-    (support.Refused refusal.Form)
+abbrev pub supports : List ℕ → ℕ → Result Bool Refusal
+supports body f = pick (is_capabilities body) (Ok (is_marked (function_mask body) f)) (Err refusal.Form)

@@ -8,7 +8,7 @@ ghost use Rattle.masks.specs.Mask.{ones_in};
 ghost use Rattle.capabilities.specs.Capabilities.{word, is_capabilities, capabilities_of, read_capabilities, supports};
 ghost use Rattle.capabilities.specs.Promises.{OfCapabilities};
 
-use masks::{is_marked, is_response};
+use masks::{Layout, is_marked, is_response};
 use refusals::Refusal;
 pub use writer::write_capabilities;
 
@@ -20,65 +20,49 @@ const MASK_AT: usize = 10;
 
 const LONGEST: usize = 42;
 
-#[derive(Clone, Copy)]
-pub enum Capabilities {
-    Refused(Refusal),
-    // The last is the number of supported functions.
-    Answer {
-        version: u8,
-        revision: u8,
-        manufacturer: u16,
-        product_type: u16,
-        product_id: u16,
-        supported: u16,
-    },
+// What the 8 fixed bytes say. They are read and written place by place: a `From<[u8; 8]>` would first need an array made of a slice, with an
+// `Err` that can't come.
+#[derive(Clone, Copy, Debug, PartialEq, Eq)]
+pub struct Identity {
+    pub version: u8,
+    pub revision: u8,
+    pub manufacturer: u16,
+    pub product_type: u16,
+    pub product_id: u16,
 }
 
-#[derive(Clone, Copy)]
-pub enum Support {
-    Refused(Refusal),
-    Supported,
-    Unsupported,
+#[derive(Clone, Copy, Debug, PartialEq, Eq)]
+pub struct Capabilities {
+    pub identity: Identity,
+    // The number of supported functions.
+    pub supported: u16,
 }
 
-// A number of two bytes, most significant first.
+// A number of two bytes, most significant first. (A function: the definition `word` is its promise, which three numbers cite.)
 fn word(high: u8, low: u8) -> u16
     ensures { result ≡ word high low }
 {
-    high as u16 * 256 + low as u16
+    u16::from_be_bytes([high, low])
 }
 
 // The number of one bits of a mask of at most 32 bytes.
+#[tactic(auto, unfolding(masks::specs::Mask::ones_in))]
 fn ones_in(mask: &[u8]) -> u16
     requires { length mask.now ≤ 32 }
     ensures { result ≡ ones_in mask.now }
 {
-    let mut n: u16 = 0;
-    let mut i = 0;
-    while i < mask.len() {
-        n += u8::count_ones(mask[i]) as u16;
-        i += 1;
-    }
-    n
+    mask.iter().map(|byte| byte.count_ones() as u16).sum()
 }
 
-// Whether the body is of the layout.
-fn is_capabilities(body: &[u8]) -> bool
-    ensures { result ≡ is_capabilities body.now }
-{
-    if !is_response(body, CAPABILITIES) {
-        return false;
+impl Layout for Capabilities {
+    ghost taken = { is_capabilities };
+
+    fn takes(body: &[u8]) -> bool {
+        is_response(body, CAPABILITIES)
+            && MASK_AT <= body.len()
+            && body.len() <= LONGEST
+            && !is_marked(&body[MASK_AT..], 256)
     }
-    if body.len() < MASK_AT {
-        return false;
-    }
-    if LONGEST < body.len() {
-        return false;
-    }
-    if is_marked(&body[MASK_AT..], 256) {
-        return false;
-    }
-    true
 }
 
 // The answer to a body of the layout.
@@ -86,35 +70,35 @@ fn capabilities_of(body: &[u8]) -> Capabilities
     requires { OfCapabilities body.now }
     ensures { result ≡ capabilities_of body.now }
 {
-    Capabilities::Answer {
+    let identity = Identity {
         version: body[2],
         revision: body[3],
         manufacturer: word(body[4], body[5]),
         product_type: word(body[6], body[7]),
         product_id: word(body[8], body[9]),
+    };
+    Capabilities {
+        identity,
         supported: ones_in(&body[MASK_AT..]),
     }
 }
 
 // Reads the whole body.
-pub fn read_capabilities(body: &[u8]) -> Capabilities
+pub fn read_capabilities(body: &[u8]) -> Result<Capabilities, Refusal>
     ensures { result ≡ read_capabilities body.now }
 {
-    if !is_capabilities(body) {
-        return Capabilities::Refused(Refusal::Form);
+    if !Capabilities::takes(body) {
+        return Err(Refusal::Form);
     }
-    capabilities_of(body)
+    Ok(capabilities_of(body))
 }
 
-// Reads one function of the body.
-pub fn supports(body: &[u8], f: u8) -> Support
+// Reads whether one function is supported.
+pub fn supports(body: &[u8], f: u8) -> Result<bool, Refusal>
     ensures { result ≡ supports body.now f }
 {
-    if !is_capabilities(body) {
-        return Support::Refused(Refusal::Form);
+    if !Capabilities::takes(body) {
+        return Err(Refusal::Form);
     }
-    if is_marked(&body[MASK_AT..], f as u16) {
-        return Support::Supported;
-    }
-    Support::Unsupported
+    Ok(is_marked(&body[MASK_AT..], u16::from(f)))
 }

@@ -3,20 +3,19 @@
 use mathlib.Core.Path.{◌≡◌, refl, sym, ap, subst, ◌∙◌}
 use mathlib.Core.Bool.{Bool, true, false}
 use mathlib.Core.List.{List, [], ◌∷◌, ◌++◌}
-use Prim.Native.Nat.{ℕ, zero, suc, ◌+◌, ◌-◌, ◌≤◌, ◌<◌}
+use Prim.Native.Nat.{ℕ, zero, suc, ◌+◌, ◌≤◌, ◌<◌}
 use native.Mathlib.Numerals.{add-one}
 use native.Mathlib.Omega.{arith}
 use borrow.Author.Tests.{lt-ltb, le-ltb, ne_eqb}
 use lib.Dec.{eqb, ltb}
 use lib.ListN.{length, take, drop, get_or, take-append-drop, length-drop}
-use lib.Seq.{drop-cons, drop-drop, length-take-le}
+use lib.Seq.{drop-cons, length-take-le}
 use Rattle.refusals.specs.Pick.{pick}
 use Rattle.frame.specs.Bytes.{fold}
 use Rattle.hearing.specs.Hearing.{heard, begun, more, ended}
 use Rattle.hearing.specs.Promises.{walked}
 use Rattle.hearing.proofs.Walks.{walked_size, walked_at, walked_sum, walked_kind}
 use Rattle.hearing.specs.declared.hearing.Partial.{Partial}
-use Rattle.hearing.specs.declared.hearing.Hearing.{Hearing}
 use Rattle.hearing.specs.declared.hearing.Hearing.TheVariants.{Hunting, Head, Body}
 use Rattle.hearing.specs.declared.hearing.Single.TheVariants.{Ack, Nak, Can}
 use Rattle.hearing.specs.declared.hearing.End.TheVariants.{BadSum, Reserved, Request, Response}
@@ -25,7 +24,7 @@ use Rattle.tally.specs.declared.Counts.{Counts}
 use Rattle.tally.specs.declared.Tally.{Tally}
 use Rattle.tally.specs.Tally.{end_column, added, tallied, count_byte}
 use Rattle.counting.specs.Counting.{count}
-use Rattle.counting.specs.Promises.{hunting, apart, whole, Ahead, Beyond}
+use Rattle.counting.specs.Promises.{hunting, apart, whole, Beyond}
 use Rattle.counting.proofs.Laws.{count_more}
 
 abbrev headed : Counts → Tally
@@ -115,133 +114,63 @@ frame_bytes k size kind check body rest h l =
     ∙ checked q k check rest d
     ∙ ap (λ (c : ℕ). count (hunting (added c k)) rest) (wholes check t s)
 
--- The same at a place of the bytes.
+-- The same of what is left.
 
-cons_to : (l : List ℕ) (j m : ℕ) → j < length l → m ≡ j + 1 → drop j l ≡ get_or l j 0 ∷ drop m l
-cons_to l j m h e = drop-cons l j 0 h ∙ ap (λ (n : ℕ). get_or l j 0 ∷ drop n l) (sym (add-one j) ∙ sym e)
-
-take_two : (n x y : ℕ) (l : List ℕ) → take (n + 2) (x ∷ y ∷ l) ≡ x ∷ y ∷ take n l
-take_two n x y l =
-    let e : n + 2 ≡ suc (suc n) = omega arith in
-    ap (λ (m : ℕ). take m (x ∷ y ∷ l)) e
-
-module _ (bytes : List ℕ) (i : ℕ) (k : Counts) where
-  pub apart_at : i < length bytes → (get_or bytes i 0 ≡ 1 → ⊥) → Ahead bytes (hunting k) i (hunting (added (apart (get_or bytes i 0)) k)) (i + 1)
-  apart_at h n =
+module _ (k : Counts) where
+  -- A byte that begins no frame.
+  pub apart_on : (bytes rest : List ℕ) (b : ℕ) → bytes ≡ b ∷ rest → (b ≡ 1 → ⊥) → Beyond (hunting k) bytes (hunting (added (apart b) k)) rest
+  apart_on bytes rest b e h =
       record {
-        on = omega arith;
-        within = omega arith;
-        same =
-            count_more (hunting k) i bytes h
-            ∙ ap (λ (t : Tally). count t (drop (i + 1) bytes)) (apart_byte k (get_or bytes i 0) n);
+        left = omega (arith, ap length e);
+        same = count_more (hunting k) bytes rest b e ∙ ap (λ (t : Tally). count t rest) (apart_byte k b h);
       }
 
-  pub short_at : i + 1 < length bytes → get_or bytes i 0 ≡ 1 → get_or bytes (i + 1) 0 < 3 → Ahead bytes (hunting k) i (hunting (added 5 k)) (i + 2)
-  short_at h one short =
-      let a : drop i bytes ≡ 1 ∷ get_or bytes (i + 1) 0 ∷ drop (i + 2) bytes =
-      cons_to bytes i (i + 1) (omega arith) refl
-      ∙ ap (λ (b : ℕ). b ∷ drop (i + 1) bytes) one
-      ∙ ap (λ (l : List ℕ). 1 ∷ l) (cons_to bytes (i + 1) (i + 2) h (omega arith)) in
+  -- Behind an 01: a bad length.
+  pub short_on : (rest behind : List ℕ) (size : ℕ) → rest ≡ size ∷ behind → size < 3
+      → Beyond (hunting k) (1 ∷ rest) (hunting (added 5 k)) behind
+  short_on rest behind size e h =
       record {
-        on = omega arith;
-        within = omega arith;
-        same = ap (λ (l : List ℕ). count (hunting k) l) a ∙ short_bytes k (get_or bytes (i + 1) 0) (drop (i + 2) bytes) short;
+        left = omega (arith, ap length e);
+        same = ap (λ (l : List ℕ). count (hunting k) (1 ∷ l)) e ∙ short_bytes k size behind h;
       }
 
-  module _ (n : ℕ) (fits : i + n + 4 ≤ length bytes) (one : get_or bytes i 0 ≡ 1) (two : get_or bytes (i + 1) 0 ≡ n + 2) where
-    body : List ℕ
-    body = take n (drop (i + 3) bytes)
+-- A list of more than n is its first n, the one behind them, and the rest.
+parted : (n : ℕ) (l : List ℕ) → n < length l → l ≡ take n l ++ (get_or l n 0 ∷ drop (n + 1) l)
+parted n l h =
+    sym (take-append-drop n l)
+    ∙ ap (λ (r : List ℕ). take n l ++ r) (drop-cons l n 0 h ∙ ap (λ (m : ℕ). get_or l n 0 ∷ drop m l) (sym (add-one n)))
 
-    behind_type : drop (i + 3) bytes ≡ body ++ (get_or bytes (i + 3 + n) 0 ∷ drop (i + 4 + n) bytes)
-    unfolding body
-    behind_type =
-        sym (take-append-drop n (drop (i + 3) bytes))
-        ∙ ap (λ (l : List ℕ). take n (drop (i + 3) bytes) ++ l)
-        (drop-drop n (i + 3) bytes ∙ cons_to bytes (i + 3 + n) (i + 4 + n) (omega arith) (omega arith))
+-- Behind an 01: a whole frame.
 
-    behind_length : drop (i + 1) bytes ≡ (n + 2) ∷ get_or bytes (i + 2) 0 ∷ drop (i + 3) bytes
-    behind_length =
-        cons_to bytes (i + 1) (i + 2) (omega arith) (omega arith)
-        ∙ ap (λ (b : ℕ). b ∷ drop (i + 2) bytes) two
-        ∙ ap (λ (l : List ℕ). (n + 2) ∷ l) (cons_to bytes (i + 2) (i + 3) (omega arith) (omega arith))
+whole_bytes : (k : Counts) (size : ℕ) (behind : List ℕ) → 3 ≤ size → size < length (size ∷ behind)
+    → count (hunting k) (1 ∷ size ∷ behind)
+    ≡ count
+    (hunting (added (whole (get_or (size ∷ behind) 1 0) (fold 255 (take size (size ∷ behind))) (get_or (size ∷ behind) size 0)) k))
+    (drop (size + 1) (size ∷ behind))
+whole_bytes k (suc (suc n)) [] h fits = absurd (omega (arith, fits))
+whole_bytes k (suc (suc n)) (kind ∷ tail) h fits =
+    let e : suc (suc n) + 1 ≡ suc (suc (n + 1)) = omega arith in
+    rw e
+    (ap (λ (l : List ℕ). count (hunting k) (1 ∷ suc (suc n) ∷ kind ∷ l)) (parted n tail (omega (arith, fits)))
+    ∙ frame_bytes k (suc (suc n)) kind (get_or tail n 0) (take n tail) (drop (n + 1) tail) h
+    (omega (arith, length-take-le n tail (omega (arith, fits)))))
+whole_bytes k (suc zero) behind h fits = absurd (omega (arith, h))
+whole_bytes k zero behind h fits = absurd (omega (arith, h))
 
-    laid_out : drop i bytes ≡ 1 ∷ (n + 2) ∷ get_or bytes (i + 2) 0 ∷ (body ++ (get_or bytes (i + 3 + n) 0 ∷ drop (i + 4 + n) bytes))
-    laid_out =
-        cons_to bytes i (i + 1) (omega arith) refl
-        ∙ ap (λ (b : ℕ). b ∷ drop (i + 1) bytes) one
-        ∙ ap (λ (l : List ℕ). 1 ∷ l) behind_length
-        ∙ ap (λ (l : List ℕ). 1 ∷ (n + 2) ∷ get_or bytes (i + 2) 0 ∷ l) behind_type
-
-    body_length : length body ≡ n
-    unfolding body
-    body_length = length-take-le n (drop (i + 3) bytes) (simp length-drop (omega arith))
-
-    folded : take (n + 2) (drop (i + 1) bytes) ≡ (n + 2) ∷ get_or bytes (i + 2) 0 ∷ body
-    unfolding body
-    folded = ap (λ (l : List ℕ). take (n + 2) l) behind_length ∙ take_two n (n + 2) (get_or bytes (i + 2) 0) (drop (i + 3) bytes)
-
-    whole_there : 1 ≤ n
-        → count (hunting k) (drop i bytes)
-        ≡ count
-        (hunting (added (whole (get_or bytes (i + 2) 0) (fold 255 (take (n + 2) (drop (i + 1) bytes))) (get_or bytes (i + 3 + n) 0)) k))
-        (drop (i + 4 + n) bytes)
-    whole_there h =
-        ap (λ (l : List ℕ). count (hunting k) l) laid_out
-        ∙ frame_bytes k (n + 2) (get_or bytes (i + 2) 0) (get_or bytes (i + 3 + n) 0) body (drop (i + 4 + n) bytes) (omega arith)
-        (omega (arith, body_length))
-        ∙ ap (λ (l : List ℕ). count (hunting (added (whole (get_or bytes (i + 2) 0) (fold 255 l) (get_or bytes (i + 3 + n) 0)) k)) (drop (i + 4 + n) bytes))
-        (sym folded)
-
-    whole_to : (size last next : ℕ) → size ≡ n + 2 → last ≡ i + 3 + n → next ≡ i + 4 + n → 1 ≤ n
-        → count (hunting k) (drop i bytes)
-        ≡ count
-        (hunting (added (whole (get_or bytes (i + 2) 0) (fold 255 (take size (drop (i + 1) bytes))) (get_or bytes last 0)) k))
-        (drop next bytes)
-    whole_to size last next a b c h = rw (a, b, c) (whole_there h)
-
-  pub whole_at : (size last : ℕ) → get_or bytes i 0 ≡ 1 → get_or bytes (i + 1) 0 ≡ size → 3 ≤ size → last ≡ i + 1 + size → last < length bytes
-      → Ahead bytes (hunting k) i
-      (hunting (added (whole (get_or bytes (i + 2) 0) (fold 255 (take size (drop (i + 1) bytes))) (get_or bytes last 0)) k)) (last + 1)
-  whole_at size last one two least e fits =
-      record {
-        on = omega arith;
-        within = omega arith;
-        same =
-            whole_to (size - 2) (omega arith) one (two ∙ omega arith) size last (last + 1) (omega arith) (omega arith) (omega arith)
-            (omega arith);
-      }
-
--- Strides in a row.
-
-pub ahead_none : (bytes : List ℕ) (t : Tally) (i : ℕ) → i ≤ length bytes → Ahead bytes t i t i
-ahead_none bytes t i h = record { on = omega arith; within = h; same = refl }
-
-module _ {bytes : List ℕ} {t u v : Tally} {i j m : ℕ} where
-  pub ahead_ahead : Ahead bytes t i u j → Ahead bytes u j v m → Ahead bytes t i v m
-  ahead_ahead a b = record { on = omega arith; within = b.within; same = a.same ∙ b.same }
-
-  pub ahead_on : Ahead bytes t i u j → Beyond bytes u j v m → Ahead bytes t i v m
-  ahead_on a b = record { on = omega arith; within = b.within; same = a.same ∙ b.same }
-
-  pub ahead_onward : Ahead bytes t i u j → Beyond bytes u j v m → Beyond bytes t i v m
-  ahead_onward a b = record { on = omega arith; within = b.within; same = a.same ∙ b.same }
-
--- The tally, or the counts, that a call answered.
-pub tally_is : {bytes : List ℕ} {t u w : Tally} {i j : ℕ} → w ≡ u → Ahead bytes t i u j → Ahead bytes t i w j
-tally_is {bytes} {t} {u} {w} {i} {j} e a = subst (λ (x : Tally). Ahead bytes t i x j) (sym e) a
-
-pub counts_are : {bytes : List ℕ} {t : Tally} {k l : Counts} {i j : ℕ} → l ≡ k → Ahead bytes t i (hunting k) j → Ahead bytes t i (hunting l) j
-counts_are e a = tally_is (ap hunting e) a
-
-pub byte_at : (bytes : List ℕ) (t u : Tally) (i : ℕ) → i < length bytes → u ≡ count_byte (get_or bytes i 0) t → Beyond bytes t i u (i + 1)
-byte_at bytes t u i h e =
+pub whole_on : (k : Counts) (rest behind : List ℕ) (size : ℕ) → rest ≡ size ∷ behind → 3 ≤ size → size < length rest
+    → Beyond (hunting k) (1 ∷ rest)
+    (hunting (added (whole (get_or rest 1 0) (fold 255 (take size rest)) (get_or rest size 0)) k))
+    (drop (size + 1) rest)
+whole_on k rest behind size e h fits =
     record {
-      on = omega arith;
-      within = omega arith;
-      same = count_more t i bytes h ∙ ap (λ (w : Tally). count w (drop (i + 1) bytes)) (sym e);
+      left = simp length-drop (omega arith);
+      same =
+          let P : List ℕ → Type 0 = λ l. size < length l
+          → count (hunting k) (1 ∷ l)
+          ≡ count (hunting (added (whole (get_or l 1 0) (fold 255 (take size l)) (get_or l size 0)) k)) (drop (size + 1) l) in
+          subst P (sym e) (whole_bytes k size behind h) fits;
     }
 
--- A tally that hunts is its counts.
-pub onward_hunting : {bytes : List ℕ} {t u : Tally} {i j : ℕ} → t.hearing ≡ Hunting → Beyond bytes (hunting t.counts) i u j → Beyond bytes t i u j
-onward_hunting {bytes} {t} {u} {i} {j} e o =
-    subst (λ (h : Hearing). Beyond bytes (record { hearing = h; counts = t.counts }) i u j) (sym e) o
+-- The counts that a call left.
+pub counts_are : {t : Tally} {bytes rest : List ℕ} {k l : Counts} → l ≡ k → Beyond t bytes (hunting k) rest → Beyond t bytes (hunting l) rest
+counts_are {t} {bytes} {rest} e b = subst (λ (x : Counts). Beyond t bytes (hunting x) rest) (sym e) b

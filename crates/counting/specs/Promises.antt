@@ -1,6 +1,6 @@
 -- What the parts of `count` promise each other: several bytes at once are those bytes one by one. A reader need not believe it.
 -- Assumes nothing.
-use Rattle.std.specs.Prelude.{ℕ, ◌≤◌, ◌<◌, ◌≡◌, List, eqb, ltb, length, drop}
+use Rattle.std.specs.Prelude.{ℕ, ◌≤◌, ◌<◌, ◌≡◌, List, eqb, ltb, length}
 use Rattle.refusals.specs.Pick.{pick}
 use Rattle.hearing.specs.declared.hearing.Hearing.TheVariants.{Hunting}
 use Rattle.tally.specs.declared.Counts.{Counts}
@@ -19,14 +19,12 @@ apart b = pick (eqb b ACK) 0 (pick (eqb b NAK) 1 (pick (eqb b CAN) 2 7))
 abbrev pub whole : ℕ → ℕ → ℕ → ℕ
 whole kind sum check = pick (eqb check sum) (pick (ltb kind 2) 3 6) 4
 
--- Counting from t at i gives what counting from u at j gives.
-pub record Ahead (bytes : List ℕ) (t : Tally) (i : ℕ) (u : Tally) (j : ℕ) : Type 0 where
-  pub on : i ≤ j
-  pub within : j ≤ length bytes
-  pub same : count t (drop i bytes) ≡ count u (drop j bytes)
+-- Counting on from u over the rest gives what counting from t over the bytes gives.
+pub record Ahead (t : Tally) (bytes : List ℕ) (u : Tally) (rest : List ℕ) : Type 0 where
+  pub left : length rest ≤ length bytes
+  pub same : count t bytes ≡ count u rest
 
 -- The same, and at least one byte is behind.
-pub record Beyond (bytes : List ℕ) (t : Tally) (i : ℕ) (u : Tally) (j : ℕ) : Type 0 where
-  pub on : i < j
-  pub within : j ≤ length bytes
-  pub same : count t (drop i bytes) ≡ count u (drop j bytes)
+pub record Beyond (t : Tally) (bytes : List ℕ) (u : Tally) (rest : List ℕ) : Type 0 where
+  pub left : length rest < length bytes
+  pub same : count t bytes ≡ count u rest

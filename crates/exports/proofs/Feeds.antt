@@ -3,18 +3,13 @@
 --     ticks_..              ticks
 --     ended                 what is reached is what is answered
 --     asked_.., heard_on    how a link is made ready
---     ready_on              what is fed to a link that was made ready
 -- Assumes nothing.
-use Rattle.std.proofs.Common.{◌≡◌, ℕ, ◌+◌, ◌-◌, ◌<◌, ◌≤◌, Bool, true, false, List, length, get_or, drop, sym, refl, ap, ◌∙◌, add-one, arith, drop_of_length-le, drop-cons}
+use Rattle.std.proofs.Common.{◌≡◌, Some, ℕ, ◌+◌, ◌-◌, ◌<◌, ◌≤◌, Bool, true, false, List, length, get_or, drop, sym, refl, ap, ◌∙◌, add-one, arith, drop_of_length-le, drop-cons}
 use Rattle.rules.specs.Rules.{rules_of}
 use Rattle.link.specs.Out.{Out, byte_out, tick_out, open_out}
-use Rattle.step.specs.Checks.{checks, session_own}
-use Rattle.step.specs.declared.checks.Checked.{Checked}
-use Rattle.step.specs.declared.checks.Checked.TheVariants.{Passes}
-use Rattle.link.specs.Calls.{CallPromise}
+use Rattle.step.specs.Checks.{Checked, checks, passes, session_own}
+use Rattle.link.specs.Calls.{Answered, CallPromise}
 use Rattle.link.specs.declared.link.Link.{Link}
-use Rattle.link.specs.declared.calls.Answered.{Answered}
-use Rattle.job.specs.declared.job.Asking.TheVariants.{Asks}
 use Rattle.frame.specs.Frame.{frame_of}
 use Rattle.exports.specs.Numbers.{mix, answer_number}
 use Rattle.exports.specs.Feeding.{Fed, at, after_call, byte_fed, tick_fed, bytes_fed, ticks_fed, asked, unsummed, heard_fed, FedTo}
@@ -31,7 +26,7 @@ fed own k o l line up line' up' r s n m e p q a = simp (← e, q, a, p.answer, p
 -- k is of the buffers as they were lent; here they are line and up
 module _ (line₀ up₀ : List ℕ) (l : Link) (line up : List ℕ) (s : ℕ) where
   abbrev k : Checked
-  k = checks line₀ up₀ Passes
+  k = checks line₀ up₀ passes
 
   abbrev f : Fed
   f = at l line up s
@@ -47,11 +42,11 @@ module _ (line₀ up₀ : List ℕ) (l : Link) (line up : List ℕ) (s : ℕ) wh
 
     pub bytes_on : (line' up' : List ℕ) (r : Answered) (n m : ℕ) → i < length bytes
         → length line ≡ length line₀ → length up ≡ length up₀
-        → CallPromise Passes (byte_out (rules_of l.core.choice) l (get_or bytes i 0)) l line up r line' up' → n ≡ mix s m → m ≡ answer_number r.answer
+        → CallPromise passes (byte_out (rules_of l.core.choice) l (get_or bytes i 0)) l line up r line' up' → n ≡ mix s m → m ≡ answer_number r.answer
         → bytes_fed k f (drop i bytes) ≡ bytes_fed k (at r.link line' up' n) (drop (i + 1) bytes)
     bytes_on line' up' r n m h p q x e a =
         bytes_more h
-        ∙ ap (λ (g : Fed). bytes_fed k g (drop (i + 1) bytes)) (fed Passes k (byte_out (rules_of l.core.choice) l (get_or bytes i 0)) l line up line' up' r s n m (same_checks Passes line up line₀ up₀ p q) x e a)
+        ∙ ap (λ (g : Fed). bytes_fed k g (drop (i + 1) bytes)) (fed passes k (byte_out (rules_of l.core.choice) l (get_or bytes i 0)) l line up line' up' r s n m (same_checks passes line up line₀ up₀ p q) x e a)
 
   module _ (i n : ℕ) where
     pub ticks_start : i ≡ 0 → ticks_fed k f n ≡ ticks_fed k f (n - i)
@@ -67,11 +62,11 @@ module _ (line₀ up₀ : List ℕ) (l : Link) (line up : List ℕ) (s : ℕ) wh
 
     pub ticks_on : (line' up' : List ℕ) (r : Answered) (t m : ℕ) → i < n
         → length line ≡ length line₀ → length up ≡ length up₀
-        → CallPromise Passes (tick_out (rules_of l.core.choice) l) l line up r line' up' → t ≡ mix s m → m ≡ answer_number r.answer
+        → CallPromise passes (tick_out (rules_of l.core.choice) l) l line up r line' up' → t ≡ mix s m → m ≡ answer_number r.answer
         → ticks_fed k f (n - i) ≡ ticks_fed k (at r.link line' up' t) (n - (i + 1))
     ticks_on line' up' r t m h p q x e a =
         ticks_more h
-        ∙ ap (λ (g : Fed). ticks_fed k g (n - (i + 1))) (fed Passes k (tick_out (rules_of l.core.choice) l) l line up line' up' r s t m (same_checks Passes line up line₀ up₀ p q) x e a)
+        ∙ ap (λ (g : Fed). ticks_fed k g (n - (i + 1))) (fed passes k (tick_out (rules_of l.core.choice) l) l line up line' up' r s t m (same_checks passes line up line₀ up₀ p q) x e a)
 
 -- what is reached is what is answered
 pub ended : (f : Fed) (l : Link) (line up : List ℕ) (s : ℕ) → f ≡ at l line up s → FedTo f s line up
@@ -85,7 +80,7 @@ ended f l line up s e =
 -- ---- how a link is made ready
 module _ (ps line up : List ℕ) (l fresh : Link) (same : l ≡ fresh) where
   pub asked_on : (asks : Bool) (line' up' : List ℕ) (r : Answered) → asks ≡ true
-      → CallPromise (session_own l.core.job (length ps)) (open_out l (Asks 7) (frame_of 0 7 ps)) l line up r line' up'
+      → CallPromise (session_own l.core.job (length ps)) (open_out l (Some 7) (frame_of 0 7 ps)) l line up r line' up'
       → asked asks ps (at fresh line up 0) ≡ at r.link line' up' 0
   asked_on asks line' up' r e x = simp (e, x.answer, x.line_left, x.up_left, same)
 
@@ -93,19 +88,5 @@ module _ (ps line up : List ℕ) (l fresh : Link) (same : l ≡ fresh) where
   asked_not asks e = simp (e, same)
 
 pub heard_on : (bs : List ℕ) (f : Fed) (l l' : Link) (line up line' up' : List ℕ) (s : ℕ) → f ≡ at l line up 0
-    → bytes_fed (checks line up Passes) (at l line up 0) bs ≡ at l' line' up' s → heard_fed bs f ≡ at l' line' up' 0
+    → bytes_fed (checks line up passes) (at l line up 0) bs ≡ at l' line' up' s → heard_fed bs f ≡ at l' line' up' 0
 heard_on bs f l l' line up line' up' s e x = ap (heard_fed bs) e ∙ ap unsummed x
-
--- what is fed to a link that was made ready: its calls see the buffers as they were lent
-pub ready_on : (feeds : Checked → Fed → Fed) (f : Fed) (l : Link) (line up line₀ up₀ line' up' : List ℕ) (r : ℕ)
-    → length line ≡ length line₀ → length up ≡ length up₀ → f ≡ at l line up 0
-    → FedTo (feeds (checks line up Passes) (at l line up 0)) r line' up' → FedTo (feeds (checks line₀ up₀ Passes) f) r line' up'
-ready_on feeds f l line up line₀ up₀ line' up' r p q x y =
-    let e : feeds (checks line up Passes) (at l line up 0) ≡ feeds (checks line₀ up₀ Passes) f =
-    ap (λ (z : Checked). feeds z (at l line up 0)) (same_checks Passes line up line₀ up₀ p q)
-    ∙ ap (feeds (checks line₀ up₀ Passes)) (sym x) in
-    record {
-      answer = y.answer ∙ ap (λ (g : Fed). g.sum) e;
-      line_left = y.line_left ∙ ap (λ (g : Fed). g.line) e;
-      up_left = y.up_left ∙ ap (λ (g : Fed). g.up) e;
-    }

@@ -5,13 +5,14 @@
 --     count_determined    sarnaqel_count: the nine counts that it leaves
 --     mix_determined, answer_number_determined, tale_determined   mix, answer_number, tale_of, for both
 -- Assumes nothing.
-use Rattle.std.proofs.Common.{◌≡◌, ℕ, List, ap, ◌∙◌}
+use Rattle.std.proofs.Common.{◌≡◌, ℕ, List, Result, ap, ◌∙◌}
 use Rattle.refusals.proofs.Theorems.{fixed}
 use Rattle.reading.specs.Reader.{read}
 use Rattle.tally.specs.Tally.{fresh}
 use Rattle.counting.specs.Counting.{count}
-use Rattle.link.specs.declared.calls.Answer.{Answer}
-use Rattle.link.specs.declared.calls.RunAnswer.{RunAnswer}
+use Rattle.refusals.specs.declared.Refusal.{Refusal}
+use Rattle.report.specs.declared.Report.{Report}
+use Rattle.link.specs.declared.calls.Run.{Run}
 use Rattle.exports.specs.declared.numbers.Tale.{Tale}
 use Rattle.exports.specs.Numbers.{mix, answer_number, run_number, run_taken, reading_number, BuiltAs, counts_of}
 use Rattle.exports.specs.Feeding.{Fed, FedTo}
@@ -32,10 +33,10 @@ count_determined input = fixed
 pub mix_determined : (sum number : ℕ) {r q : ℕ} → r ≡ mix sum number → q ≡ mix sum number → r ≡ q
 mix_determined sum number = fixed
 
-pub answer_number_determined : (a : Answer) {r q : ℕ} → r ≡ answer_number a → q ≡ answer_number a → r ≡ q
+pub answer_number_determined : (a : Result Report Refusal) {r q : ℕ} → r ≡ answer_number a → q ≡ answer_number a → r ≡ q
 answer_number_determined a = fixed
 
-pub tale_determined : (a : RunAnswer) {r q : Tale} → (r.number ≡ run_number a) × (r.taken ≡ run_taken a)
+pub tale_determined : (a : Result Run Refusal) {r q : Tale} → (r.number ≡ run_number a) × (r.taken ≡ run_taken a)
     → (q.number ≡ run_number a) × (q.taken ≡ run_taken a) → r ≡ q
 tale_determined a {r} {q} x y =
     let told : ℕ → ℕ → Tale = λ n t. record { number = n; taken = t } in

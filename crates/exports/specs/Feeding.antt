@@ -1,18 +1,14 @@
 -- A link fed with bytes and ticks, call by call: what the calls told, mixed into one number, and every lent byte.
 -- Assumes nothing.
-use Rattle.std.specs.Prelude.{◌≡◌, ℕ, zero, suc, min, Bool, List, [], ◌∷◌, length, take, drop, ◌==◌}
+use Rattle.std.specs.Prelude.{◌≡◌, ℕ, zero, suc, min, Bool, List, [], ◌∷◌, length, take, drop, ◌==◌, Some}
 use Rattle.refusals.specs.Pick.{pick}
 use Rattle.frame.specs.Frame.{frame_of}
 use Rattle.rules.specs.Rules.{usual, rules_of}
 use Rattle.link.specs.Link.{fresh_link}
 use Rattle.link.specs.Out.{Out, byte_out, tick_out, open_out, run_out}
-use Rattle.step.specs.Checks.{checks, session_own}
-use Rattle.step.specs.declared.checks.Checked.{Checked}
-use Rattle.step.specs.declared.checks.Checked.TheVariants.{Passes}
-use Rattle.link.specs.Calls.{answered, ran, left}
+use Rattle.step.specs.Checks.{Checked, checks, passes, session_own}
+use Rattle.link.specs.Calls.{Ran, answered, ran, left}
 use Rattle.link.specs.declared.link.Link.{Link}
-use Rattle.link.specs.declared.calls.Ran.{Ran}
-use Rattle.job.specs.declared.job.Asking.TheVariants.{Asks}
 use Rattle.exports.specs.Numbers.{mix, answer_number, run_number, run_taken}
 
 -- the link, the lent buffers, and the number so far
@@ -78,8 +74,8 @@ runs_fed (suc n) k most f bs =
 abbrev pub asked : Bool → List ℕ → Fed → Fed
 asked asks ps f =
     pick asks
-    (after_all (checks f.line f.up (session_own f.link.core.job (length ps))) (open_out f.link (Asks 7) (frame_of 0 7 ps))
-    (answered (checks f.line f.up (session_own f.link.core.job (length ps))) (open_out f.link (Asks 7) (frame_of 0 7 ps)) f.link).link
+    (after_all (checks f.line f.up (session_own f.link.core.job (length ps))) (open_out f.link (Some 7) (frame_of 0 7 ps))
+    (answered (checks f.line f.up (session_own f.link.core.job (length ps))) (open_out f.link (Some 7) (frame_of 0 7 ps)) f.link).link
     f.sum f)
     f
 
@@ -89,7 +85,7 @@ unsummed f = at f.link f.line f.up 0
 
 -- these bytes, each in a call of its own; nothing is mixed in
 abbrev pub heard_fed : List ℕ → Fed → Fed
-heard_fed bs f = unsummed (bytes_fed (checks f.line f.up Passes) f bs)
+heard_fed bs f = unsummed (bytes_fed (checks f.line f.up passes) f bs)
 
 -- what an exported call answers, and leaves in the lent buffers
 pub record FedTo (f : Fed) (r : ℕ) (line' up' : List ℕ) : Type 0 where

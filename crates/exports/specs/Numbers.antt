@@ -1,24 +1,18 @@
 -- Answers as numbers, for languages that know no Rattle enum.
 -- Assumes nothing.
-use Rattle.std.specs.Prelude.{◌≡◌, ℕ, ◌+◌, ◌*◌, ◌%◌, ◌^◌, List, [], ◌∷◌, length}
+use Rattle.std.specs.Prelude.{◌≡◌, ℕ, ◌+◌, ◌*◌, ◌%◌, ◌^◌, List, [], ◌∷◌, length, Result, Ok, Err}
 use Rattle.refusals.specs.Refusals.{number_of}
 use Rattle.frame.specs.Builder.{built_of, left_by}
 use Rattle.frame.specs.Frame.{frame_of}
-use Rattle.frame.specs.declared.builder.Built.{Built}
-use Rattle.frame.specs.declared.builder.Built.TheVariants as built
 use Rattle.refusals.specs.declared.Refusal.{Refusal}
-use Rattle.reading.specs.declared.reader.Reading.{Reading}
-use Rattle.reading.specs.declared.reader.Reading.TheVariants as reading
+use Rattle.reading.specs.declared.reader.Parts.{Parts}
 use Rattle.report.specs.declared.Reception.{Reception}
 use Rattle.report.specs.declared.Sending.{Sending}
 use Rattle.report.specs.declared.Session.{Session}
 use Rattle.report.specs.declared.Reset.{Reset}
 use Rattle.report.specs.declared.Report.{Report}
 use Rattle.report.specs.Told.{reception_case, sending_case, sending_value, session_case, session_value, reset_case}
-use Rattle.link.specs.declared.calls.Answer.{Answer}
-use Rattle.link.specs.declared.calls.Answer.TheVariants as answer
-use Rattle.link.specs.declared.calls.RunAnswer.{RunAnswer}
-use Rattle.link.specs.declared.calls.RunAnswer.TheVariants as run
+use Rattle.link.specs.declared.calls.Run.{Run}
 use Rattle.tally.specs.Tally.{open_bytes}
 use Rattle.tally.specs.declared.Tally.{Tally}
 
@@ -51,26 +45,29 @@ report_number r =
     r.line)
     r.up
 
-abbrev pub answer_number : Answer → ℕ
-answer_number (answer.Refused k) = refused_number k
-answer_number (answer.Done r) = report_number r
+abbrev pub answer_number : Result Report Refusal → ℕ
+answer_number (Err k) = refused_number k
+answer_number (Ok r) = report_number r
 
-abbrev pub run_number : RunAnswer → ℕ
-run_number (run.Refused k) = refused_number k
-run_number (run.Done r n) = report_number r
+abbrev pub run_number : Result Run Refusal → ℕ
+run_number (Err k) = refused_number k
+run_number (Ok r) = report_number r.report
 
 -- how many bytes a run took; a refused one none
-abbrev pub run_taken : RunAnswer → ℕ
-run_taken (run.Refused k) = 0
-run_taken (run.Done r n) = n
+abbrev pub run_taken : Result Run Refusal → ℕ
+run_taken (Err k) = 0
+run_taken (Ok r) = r.taken
 
-abbrev pub built_number : Built → ℕ
-built_number (built.Refused k) = refused_number k
-built_number (built.Frame n) = n
+abbrev pub built_number : Result ℕ Refusal → ℕ
+built_number (Err k) = refused_number k
+built_number (Ok n) = n
 
-abbrev pub reading_number : Reading → ℕ
-reading_number (reading.Refused k) = refused_number k
-reading_number (reading.Parts kind command count) = 65536 * kind + 256 * command + count
+abbrev pub parts_number : Parts → ℕ
+parts_number p = 65536 * p.kind + 256 * p.command + p.count
+
+abbrev pub reading_number : Result Parts Refusal → ℕ
+reading_number (Err k) = refused_number k
+reading_number (Ok p) = parts_number p
 
 -- what building answers and leaves
 pub record BuiltAs (kind command : ℕ) (ps lent : List ℕ) (r : ℕ) (lent' : List ℕ) : Type 0 where

@@ -4,30 +4,13 @@ ghost use Rattle.reading.specs.Reader.{read};
 ghost use Rattle.exports.specs.Numbers as spec;
 ghost use Rattle.exports.specs.Numbers.{BuiltAs};
 
-use crate::numbers::REFUSED;
-use frame::Built;
-use reading::Reading;
+use crate::numbers::refused_number;
+use reading::Parts;
 
-fn built_number(built: Built) -> u64
-    ensures { result ≡ spec.built_number built }
+fn parts_number(parts: Parts) -> u64
+    ensures { result ≡ spec.parts_number parts }
 {
-    match built {
-        Built::Refused(refusal) => REFUSED + (refusals::number_of(refusal) as u64),
-        Built::Frame(n) => n as u64,
-    }
-}
-
-fn reading_number(reading: Reading) -> u64
-    ensures { result ≡ spec.reading_number reading }
-{
-    match reading {
-        Reading::Refused(refusal) => REFUSED + (refusals::number_of(refusal) as u64),
-        Reading::Parts {
-            kind,
-            command,
-            count,
-        } => 65536 * (kind as u64) + 256 * (command as u64) + (count as u64),
-    }
+    65536 * u64::from(parts.kind) + 256 * u64::from(parts.command) + u64::from(parts.count)
 }
 
 // Builds a frame in the lent bytes, and answers its length.
@@ -35,8 +18,7 @@ fn reading_number(reading: Reading) -> u64
 pub extern "C" fn sarnaqel_build(kind: u8, command: u8, parameters: &[u8], lent: &mut [u8]) -> u64
     ensures { BuiltAs kind command parameters.now lent.old result lent.new }
 {
-    let built = frame::build(kind, command, parameters, lent);
-    built_number(built)
+    frame::build(kind, command, parameters, lent).map_or_else(refused_number, u64::from)
 }
 
 // Reads the bytes as one whole frame, and answers its parts as one number.
@@ -44,6 +26,5 @@ pub extern "C" fn sarnaqel_build(kind: u8, command: u8, parameters: &[u8], lent:
 pub extern "C" fn sarnaqel_read(bytes: &[u8]) -> u64
     ensures { result ≡ spec.reading_number (read bytes.now) }
 {
-    let reading = reading::read(bytes);
-    reading_number(reading)
+    reading::read(bytes).map_or_else(refused_number, parts_number)
 }

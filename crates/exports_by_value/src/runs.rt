@@ -1,106 +1,72 @@
-// Whole inputs given to a link by value, call by call. What the calls told comes back as one number.
-// Every call of a link has one place in this module, since LLVM inlines what is called once. The measured calls go to
-// a link that was prepared by other calls, so LLVM knows nothing of its state.
-ghost use Rattle.std.specs.Prelude.{◌≡◌, length};
-ghost use Rattle.step.specs.Checks.{checks};
-ghost use Rattle.step.specs.declared.checks.Checked.TheVariants.{Passes};
-ghost use Rattle.exports.specs.Feeding.{FedTo, at, opened, asked, heard_fed, bytes_fed, ticks_fed, runs_fed};
+// Whole inputs given to a link by value, call by call (`feeding` of `exports`). The C names have a flag beside
+// the parameters, since C has no `Option`, and each its own list of them.
+ghost use Rattle.std.specs.Prelude.{length};
+ghost use Rattle.step.specs.Checks.{checks, passes};
+ghost use Rattle.rules.specs.Rules.{rules_of};
+ghost use Rattle.link.specs.Out.{byte_out, tick_out, run_out};
+ghost use Rattle.link.specs.Calls.{CallPromise, RunPromise};
+ghost use Rattle.exports.specs.Feeding.{FedTo, opened, asked, heard_fed, bytes_fed, ticks_fed, runs_fed};
 
-use exports::{answer_number, mix, tale_of};
-use link::Link;
+use exports::Way;
+use link::{Link, Run};
+use refusals::Refusal;
+use report::Report;
 
-// What a link came to, and the number so far.
-#[derive(Clone, Copy)]
-struct FedLink {
-    link: Link,
-    sum: u64,
-}
+// The link's own calls, to which a copy of the link goes in and from which it comes back.
+struct ByValue;
 
-// Every byte in a call of its own.
-fn bytes_fed(start: Link, input: &[u8], line: &mut [u8], up: &mut [u8]) -> FedLink
-    ensures { bytes_fed (checks line.old up.old Passes) (at start line.old up.old 0) input.now ≡ at result.link line.new up.new result.sum }
+fn byte(mut link: Link, b: u8, line: &mut [u8], up: &mut [u8]) -> (Link, Result<Report, Refusal>)
+    ensures { CallPromise passes (byte_out (rules_of link.core.choice) link b) link line.old up.old (record { link = result.0; answer = result.1 }) line.new up.new }
 {
-    let mut link = start;
-    let mut sum = 0;
-    let mut i = 0;
-    while i < input.len() {
-        let answered = link.byte(input[i], line, up);
-        link = answered.link;
-        let answer = answered.answer;
-        sum = mix(sum, answer_number(answer));
-        i += 1;
-    }
-    FedLink {
-        link: link,
-        sum: sum,
-    }
+    let answer = link.byte(b, line, up);
+    (link, answer)
 }
 
-// A fresh link on which a session is asked for, or not.
-fn asked(asks: bool, parameters: &[u8], line: &mut [u8], up: &mut [u8]) -> Link
-    ensures { asked asks parameters.now (opened line.old up.old) ≡ at result line.new up.new 0 }
+fn bytes(
+    mut link: Link,
+    bytes: &[u8],
+    line: &mut [u8],
+    up: &mut [u8],
+) -> (Link, Result<Run, Refusal>)
+    ensures { RunPromise (run_out (rules_of link.core.choice) link bytes.now) link line.old up.old (record { link = result.0; answer = result.1 }) line.new up.new }
 {
-    let fresh = Link::open();
-    if asks {
-        let answered = fresh.session(7, parameters, line, up);
-        let link = answered.link;
-        return link;
-    }
-    fresh
+    let answer = link.bytes(bytes, line, up);
+    (link, answer)
 }
 
-// The same, and then it hears these bytes.
-fn heard_fed(asks: bool, parameters: &[u8], heard: &[u8], line: &mut [u8], up: &mut [u8]) -> Link
-    ensures { heard_fed heard.now (asked asks parameters.now (opened line.old up.old)) ≡ at result line.new up.new 0 }
+fn tick(mut link: Link, line: &mut [u8], up: &mut [u8]) -> (Link, Result<Report, Refusal>)
+    ensures { CallPromise passes (tick_out (rules_of link.core.choice) link) link line.old up.old (record { link = result.0; answer = result.1 }) line.new up.new }
 {
-    let link = asked(asks, parameters, line, up);
-    let reached = bytes_fed(link, heard, line, up);
-    let ready = reached.link;
-    ready
+    let answer = link.tick(line, up);
+    (link, answer)
 }
 
-// Runs of at most so many bytes, until all are taken or a run takes none.
-fn runs_fed(start: Link, input: &[u8], most: usize, line: &mut [u8], up: &mut [u8]) -> u64
-    ensures { FedTo (runs_fed (length input.now) (checks line.old up.old Passes) most (at start line.old up.old 0) input.now) result line.new up.new }
-{
-    let mut link = start;
-    let mut sum = 0;
-    let mut at = 0;
-    while at < input.len() {
-        let left = input.len() - at;
-        let end = at + frame::least(left, most);
-        let ran = link.bytes(&input[at..end], line, up);
-        link = ran.link;
-        let answer = ran.answer;
-        let run = tale_of(answer);
-        sum = mix(mix(sum, run.number), run.taken as u64);
-        let taken = run.taken;
-        if taken == 0 {
-            return sum;
-        }
-        at += taken;
+impl Way for ByValue {
+    fn byte(link: &mut Link, b: u8, line: &mut [u8], up: &mut [u8]) -> Result<Report, Refusal> {
+        let (after, answer) = byte(*link, b, line, up);
+        *link = after;
+        answer
     }
-    sum
-}
 
-// So many ticks.
-fn ticks_fed(start: Link, n: u64, line: &mut [u8], up: &mut [u8]) -> u64
-    ensures { FedTo (ticks_fed (checks line.old up.old Passes) (at start line.old up.old 0) n) result line.new up.new }
-{
-    let mut link = start;
-    let mut sum = 0;
-    let mut i = 0;
-    while i < n {
-        let answered = link.tick(line, up);
-        link = answered.link;
-        let answer = answered.answer;
-        sum = mix(sum, answer_number(answer));
-        i += 1;
+    fn bytes(
+        link: &mut Link,
+        bytes: &[u8],
+        line: &mut [u8],
+        up: &mut [u8],
+    ) -> Result<Run, Refusal> {
+        let (after, answer) = self::bytes(*link, bytes, line, up);
+        *link = after;
+        answer
     }
-    sum
+
+    fn tick(link: &mut Link, line: &mut [u8], up: &mut [u8]) -> Result<Report, Refusal> {
+        let (after, answer) = tick(*link, line, up);
+        *link = after;
+        answer
+    }
 }
 
-// Runs of the input on a link prepared in this way.
+// Runs of the input on a link prepared in this way: a session is asked for, or not, and the heard bytes are given one by one.
 #[unsafe(no_mangle)]
 pub extern "C" fn sarnaqel_by_value_runs(
     asks: bool,
@@ -111,10 +77,9 @@ pub extern "C" fn sarnaqel_by_value_runs(
     line: &mut [u8],
     up: &mut [u8],
 ) -> u64
-    ensures { FedTo (runs_fed (length input.now) (checks line.old up.old Passes) most (heard_fed heard.now (asked asks parameters.now (opened line.old up.old))) input.now) result line.new up.new }
+    ensures { FedTo (runs_fed (length input.now) (checks line.old up.old passes) most (heard_fed heard.now (asked asks parameters.now (opened line.old up.old))) input.now) result line.new up.new }
 {
-    let link = heard_fed(asks, parameters, heard, line, up);
-    runs_fed(link, input, most, line, up)
+    exports::runs::<ByValue>(asks, parameters, heard, input, most, line, up)
 }
 
 // Every byte of the input in a call of its own, on a link prepared in this way.
@@ -127,11 +92,9 @@ pub extern "C" fn sarnaqel_by_value_bytes(
     line: &mut [u8],
     up: &mut [u8],
 ) -> u64
-    ensures { FedTo (bytes_fed (checks line.old up.old Passes) (heard_fed heard.now (asked asks parameters.now (opened line.old up.old))) input.now) result line.new up.new }
+    ensures { FedTo (bytes_fed (checks line.old up.old passes) (heard_fed heard.now (asked asks parameters.now (opened line.old up.old))) input.now) result line.new up.new }
 {
-    let link = heard_fed(asks, parameters, heard, line, up);
-    let reached = bytes_fed(link, input, line, up);
-    reached.sum
+    exports::bytes::<ByValue>(asks, parameters, heard, input, line, up)
 }
 
 // So many ticks on a link prepared in this way.
@@ -144,8 +107,7 @@ pub extern "C" fn sarnaqel_by_value_ticks(
     line: &mut [u8],
     up: &mut [u8],
 ) -> u64
-    ensures { FedTo (ticks_fed (checks line.old up.old Passes) (heard_fed heard.now (asked asks parameters.now (opened line.old up.old))) n) result line.new up.new }
+    ensures { FedTo (ticks_fed (checks line.old up.old passes) (heard_fed heard.now (asked asks parameters.now (opened line.old up.old))) n) result line.new up.new }
 {
-    let link = heard_fed(asks, parameters, heard, line, up);
-    ticks_fed(link, n, line, up)
+    exports::ticks::<ByValue>(asks, parameters, heard, n, line, up)
 }

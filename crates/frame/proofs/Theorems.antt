@@ -3,27 +3,25 @@
 use mathlib.Core.Path.{◌≡◌, refl, sym, ap, ◌∙◌}
 use mathlib.Core.Bool.{Bool}
 use mathlib.Core.List.{List, [], ◌∷◌}
-use Prim.Native.Nat.{ℕ, ◌+◌, ◌≤◌, min}
-use native.Mathlib.Nat.{min-le_left, min-le_right}
+use Prim.Native.Nat.{ℕ, ◌+◌, ◌≤◌}
 use native.Mathlib.Omega.{arith}
 use lib.Dec.{ltb}
 use lib.ListN.{length, get_or, take, drop, length-append}
 use lib.Seq.{take_at, get_or_at}
 use borrow.Author.Tests.{ltb-false, le-ltb}
+use Rattle.std.specs.Prelude.{Result, Ok}
 use Rattle.refusals.specs.declared.Refusal.{Refusal}
-use Rattle.frame.specs.declared.builder.Built.{Built}
-use Rattle.frame.specs.declared.builder.Built.TheVariants.{Refused, Frame}
 use Rattle.frame.specs.Bytes.{fold}
 use Rattle.frame.specs.Promises.{Lay}
 use Rattle.frame.specs.Frame.{counted, checksum, frame_of}
 use Rattle.refusals.specs.Pick.{pick}
 use Rattle.frame.specs.Builder.{built_of, built_told, Build}
-use Rattle.refusals.proofs.Picks.{picked_second, through_by}
+use Rattle.refusals.proofs.Picks.{picked_second, through_by, err_not_ok}
 use Rattle.refusals.proofs.Theorems.{fixed}
 
 -- Section 12: each promise determines its answer and every lent byte after the call, refusals too.
 
-pub build_determined : {kind command : ℕ} {ps lent : List ℕ} {r q : Built} {l m : List ℕ} → Build kind command ps lent r l
+pub build_determined : {kind command : ℕ} {ps lent : List ℕ} {r q : Result ℕ Refusal} {l m : List ℕ} → Build kind command ps lent r l
     → Build kind command ps lent q m → (r ≡ q) × (l ≡ m)
 build_determined a b = (fixed a.answer b.answer, fixed a.left b.left)
 
@@ -33,16 +31,6 @@ lay_determined a b = (fixed a.answer b.answer, fixed a.left b.left)
 
 pub fold_determined : (acc : ℕ) (s : List ℕ) {r q : ℕ} → r ≡ fold acc s → q ≡ fold acc s → r ≡ q
 fold_determined acc s = fixed
-
-pub least_determined : (a b : ℕ) {r q : ℕ} → r ≡ min a b → q ≡ min a b → r ≡ q
-least_determined a b = fixed
-
--- it is neither above the first nor above the second
-pub least_first : (a b : ℕ) {r : ℕ} → r ≡ min a b → r ≤ a
-least_first a b e = omega (arith, e, min-le_left a b)
-
-pub least_second : (a b : ℕ) {r : ℕ} → r ≡ min a b → r ≤ b
-least_second a b e = omega (arith, e, min-le_right a b)
 
 -- Section 2: the whole frame is n + 5 bytes
 pub frame_length : (kind command : ℕ) (ps : List ℕ) → length (frame_of kind command ps) ≡ length ps + 5
@@ -67,24 +55,20 @@ frame_checksum kind command ps =
     get_or_at (1 ∷ counted kind command ps) sum [] 0 (length ps + 4) (omega arith)
     ∙ ap checksum (sym (take_at (counted kind command ps) (sum ∷ []) (length ps + 3) (omega arith)))
 
--- a refusal is no frame
-not_refused : {k : Refusal} {n : ℕ} → Refused k ≡ Frame n → ⊥
-not_refused e = let z : ◌≡◌ {A = ℕ} 0 1 = cc in omega arith
-
 -- Section 3, build: accepted exactly where Type is at most 01, there are at most 252 parameters and n + 5 bytes of room; the answer is n + 5
-pub build_accepts : (kind n room m : ℕ) → built_of kind n room ≡ Frame m → (kind ≤ 1) × (n ≤ 252) × (n + 5 ≤ room) × (m ≡ n + 5)
+pub build_accepts : (kind n room m : ℕ) → built_of kind n room ≡ Ok m → (kind ≤ 1) × (n ≤ 252) × (n + 5 ≤ room) × (m ≡ n + 5)
 build_accepts kind n room m e =
-    let known = picked_second (ltb 1 kind) not_refused e in
-    let short = picked_second (ltb 252 n) not_refused known.1 in
-    let room-left = picked_second (ltb room (n + 5)) not_refused short.1 in
+    let known = picked_second (ltb 1 kind) err_not_ok e in
+    let short = picked_second (ltb 252 n) err_not_ok known.1 in
+    let room-left = picked_second (ltb room (n + 5)) err_not_ok short.1 in
     (ltb-false _ _ known.0, ltb-false _ _ short.0, ltb-false _ _ room-left.0, sym cc)
 
 -- and so it is
-pub build_accepted : (kind n room : ℕ) → kind ≤ 1 → n ≤ 252 → n + 5 ≤ room → built_of kind n room ≡ Frame (n + 5)
+pub build_accepted : (kind n room : ℕ) → kind ≤ 1 → n ≤ 252 → n + 5 ≤ room → built_of kind n room ≡ Ok (n + 5)
 build_accepted kind n room k l r = simp (le-ltb 1 kind k, le-ltb 252 n l, le-ltb room (n + 5) r)
 
 -- Section 3, build: KIND, LONG, ROOM, each by its number alone; of a frame 0 and its length
-pub build_told : {kind command : ℕ} {ps lent : List ℕ} {r : Built} {lent' : List ℕ} → Build kind command ps lent r lent'
+pub build_told : {kind command : ℕ} {ps lent : List ℕ} {r : Result ℕ Refusal} {lent' : List ℕ} → Build kind command ps lent r lent'
     → built_told r
     ≡ pick (ltb 1 kind) (3 ∷ [])
     (pick (ltb 252 (length ps)) (4 ∷ [])

@@ -8,27 +8,16 @@ ghost use Rattle.frame.specs.Frame as spec;
 use crate::{MAX_PARAMETERS, RES, SEED, START};
 use refusals::Refusal;
 
-#[derive(Clone, Copy)]
-pub enum Built {
-    Refused(Refusal),
-    // The frame's length: it stands in the first bytes of the lent buffer.
-    Frame(u16),
-}
-
 // Copies src over dst from `at`, each byte folded in as it is written, and answers the xor of acc and all of them.
+// It is no `copy_from_slice` and a `fold` behind it: P3 of document 02 wants one pass, which `checksum-one-byte-fewer` tries.
 fn lay_folding(acc: u8, src: &[u8], dst: &mut [u8], at: usize) -> u8
     requires { at + length src.now ≤ length dst.old }
     ensures { (result ≡ fold acc src.now) × (dst.new ≡ paste dst.old at src.now (length src.now)) }
 {
     let mut sum = acc;
-    // It outlives its turn, so that to fold the byte of the turn before is an edit of the same shape (`checksum-one-byte-fewer`).
-    let mut byte = 0;
-    let mut j = 0;
-    while j < src.len() {
-        byte = src[j];
-        sum = sum ^ byte;
-        dst[at + j] = byte;
-        j += 1;
+    for (j, byte) in src.iter().enumerate() {
+        sum ^= *byte;
+        dst[at + j] = *byte;
     }
     sum
 }
@@ -49,20 +38,23 @@ fn write(kind: u8, command: u8, parameters: &[u8], lent: &mut [u8])
     lent[n + 4] = sum;
 }
 
-// Builds the frame of these parts in the lent bytes. Bytes beyond it stay; a refusal leaves all of them.
-pub fn build(kind: u8, command: u8, parameters: &[u8], lent: &mut [u8]) -> Built
+// Builds the frame of these parts in the lent bytes, and answers its length: it stands in the first of them. Bytes beyond it stay; a
+// refusal leaves all of them. Type is any byte, no enum: 02 to FF are asked for too, and are KIND (`Build`).
+// The caller lends the room, so a length and no slice is answered.
+// `send_checks` of `step` tests KIND and LONG too: a function for the two would be longer than the four lines that it saves.
+pub fn build(kind: u8, command: u8, parameters: &[u8], lent: &mut [u8]) -> Result<u16, Refusal>
     ensures { Build kind command parameters.now lent.old result lent.new }
 {
     let n = parameters.len();
     if RES < kind {
-        return Built::Refused(Refusal::Kind);
+        return Err(Refusal::Kind);
     }
     if MAX_PARAMETERS < n {
-        return Built::Refused(Refusal::Long);
+        return Err(Refusal::Long);
     }
     if lent.len() < n + 5 {
-        return Built::Refused(Refusal::Room);
+        return Err(Refusal::Room);
     }
     write(kind, command, parameters, lent);
-    Built::Frame((n + 5) as u16)
+    Ok((n + 5) as u16)
 }

@@ -4,8 +4,8 @@
 mod builder;
 mod bytes;
 
-pub use builder::{Built, build};
-pub use bytes::{fold, lay, least};
+pub use builder::build;
+pub use bytes::{fold, lay};
 
 // Section 2: a data frame is 01, Length, Type, Command, parameters, Checksum.
 pub const START: u8 = 0x01;

@@ -4,6 +4,7 @@
 --     hunting_determined                                            whether it hunts
 --     keep_determined                                               the body of 254 bytes after a byte
 --     keep_length                                                   a byte kept leaves the body as long as it was
+--     single_of_determined, single_back                             which single byte a byte is; each is read back from its byte
 -- Assumes nothing.
 use mathlib.Core.Path.{◌≡◌, refl}
 use mathlib.Core.Bool.{Bool}
@@ -16,7 +17,10 @@ use Rattle.hearing.specs.declared.hearing.Event.TheVariants.{Inside, Kept, Skipp
 use Rattle.hearing.specs.declared.hearing.Heard.{Heard}
 use Rattle.hearing.specs.declared.hearing.Hearing.{Hearing}
 use Rattle.hearing.specs.declared.hearing.Partial.{Partial}
-use Rattle.hearing.specs.Hearing.{hunted, measured, followed, hear_byte, hear_tick, is_hunting, keep}
+use Rattle.hearing.specs.declared.hearing.Single.{Single}
+use Rattle.hearing.specs.declared.hearing.Single.TheVariants.{Ack, Nak, Can}
+use Rattle.std.specs.Prelude.{Option, Some}
+use Rattle.hearing.specs.Hearing.{byte_of, single_of, hunted, measured, followed, hear_byte, hear_tick, is_hunting, keep}
 
 pub hear_byte_determined : (h : Hearing) (b : ℕ) {r q : Heard} → r ≡ hear_byte b h → q ≡ hear_byte b h → r ≡ q
 hear_byte_determined h b x y = fixed x y
@@ -36,9 +40,9 @@ followed_determined p b x y = fixed x y
 pub hunting_determined : (h : Hearing) {r q : Bool} → r ≡ is_hunting h → q ≡ is_hunting h → r ≡ q
 hunting_determined h x y = fixed x y
 
-pub keep_determined : (e : Event) (b : ℕ) (body : List ℕ) {r q : List ℕ} → length body ≡ 254
-    → (length body ≡ 254 → r ≡ keep e b body) → (length body ≡ 254 → q ≡ keep e b body) → r ≡ q
-keep_determined e b body n x y = fixed (x n) (y n)
+pub keep_determined : (e : Event) (b : ℕ) (body : List ℕ) {r q : List ℕ}
+    → r ≡ keep e b body → q ≡ keep e b body → r ≡ q
+keep_determined e b body x y = fixed x y
 
 -- Keeping a byte leaves the body as long as it was.
 pub keep_length : (e : Event) (b : ℕ) (body : List ℕ) → length (keep e b body) ≡ length body
@@ -50,3 +54,12 @@ keep_length (Ended e) b body = refl
 keep_length TickHunting b body = refl
 keep_length TickInside b body = refl
 keep_length Aborted b body = refl
+
+pub single_of_determined : (b : ℕ) {r q : Option Single} → r ≡ single_of b → q ≡ single_of b → r ≡ q
+single_of_determined b x y = fixed x y
+
+-- A single byte that is put out is heard as the same.
+pub single_back : (s : Single) → single_of (byte_of s) ≡ Some s
+single_back Ack = refl
+single_back Nak = refl
+single_back Can = refl

@@ -1,11 +1,12 @@
 -- Section 4, reception: a byte or a tick becomes an event. Nothing here knows of sending.
 -- Assumes nothing.
-use Rattle.std.specs.Prelude.{ℕ, ◌+◌, ◌-◌, Bool, true, false, List, ltb, eqb, set}
+use Rattle.std.specs.Prelude.{ℕ, ◌+◌, ◌-◌, Bool, true, false, List, Option, Some, None, ltb, eqb, set}
 use Rattle.std.specs.Int.Bits.{bit_xor}
 use Rattle.refusals.specs.Pick.{pick}
 use Rattle.hearing.specs.declared.hearing.Partial.{Partial}
 use Rattle.hearing.specs.declared.hearing.Hearing.{Hearing}
 use Rattle.hearing.specs.declared.hearing.Hearing.TheVariants.{Hunting, Head, Body}
+use Rattle.hearing.specs.declared.hearing.Single.{Single}
 use Rattle.hearing.specs.declared.hearing.Single.TheVariants.{Ack, Nak, Can}
 use Rattle.hearing.specs.declared.hearing.End.{End}
 use Rattle.hearing.specs.declared.hearing.End.TheVariants.{BadLength, BadSum, Reserved, Request, Response}
@@ -21,6 +22,16 @@ abbrev pub is_hunting : Hearing → Bool
 is_hunting Hunting = true
 is_hunting (Head c) = false
 is_hunting (Body p) = false
+
+-- The single bytes on the line: 06, 15, 18.
+abbrev pub byte_of : Single → ℕ
+byte_of Ack = ACK
+byte_of Nak = NAK
+byte_of Can = CAN
+
+-- and any other byte is none of them
+abbrev pub single_of : ℕ → Option Single
+single_of b = pick (eqb b ACK) (Some Ack) (pick (eqb b NAK) (Some Nak) (pick (eqb b CAN) (Some Can) None))
 
 -- While hunting: 01 begins a frame and sets its clock to 0; 06, 15, 18 go to the sender; other bytes are skipped.
 abbrev pub hunted : ℕ → Heard

@@ -3,7 +3,4 @@
 
 mod hearing;
 
-pub use hearing::{
-    End, Event, Heard, Hearing, Partial, Single, followed, hear_byte, hear_tick, hunted,
-    is_hunting, keep, measured,
-};
+pub use hearing::{End, Event, Heard, Hearing, Partial, Single, hunted, keep, measured};

@@ -1,5 +1,6 @@
 -- Whole frames: bytes that come whole to a link that hunts end as the frame reader reads them, in whatever calls they come.
 -- Assumes nothing.
+use Rattle.std.specs.Prelude.{Result, Ok, Err}
 use Prim.Native.Nat.{ℕ, zero, suc, ◌+◌, ◌-◌, ◌≤◌, ◌<◌}
 use mathlib.Core.Path.{◌≡◌, refl, ap, ap₂, sym, ◌∙◌, subst}
 use mathlib.Core.Bool.{Bool, true, false, false≢true}
@@ -12,19 +13,17 @@ use borrow.Author.Tests.{ltb-true, ltb-false, lt-ltb, le-ltb, eqb-true, eqb-fals
 use Rattle.refusals.specs.Pick.{pick}
 use Rattle.frame.specs.Bytes.{fold}
 use Rattle.frame.specs.Frame.{START, ACK, CAN, MAX_PARAMETERS, MIN_LENGTH, MAX_BODY, counted, checksum, frame_of}
+use Rattle.refusals.specs.declared.Refusal.{Refusal}
 use Rattle.refusals.specs.declared.Refusal.TheVariants as refusal
-use Rattle.reading.specs.Reader.{read, measured_of, parameters_of}
+use Rattle.reading.specs.Reader.{read, frame_parts, measured_of, parameters_of}
 use Rattle.reading.proofs.Theorems.{read_built}
-use Rattle.reading.specs.declared.reader.Reading.{Reading}
-use Rattle.reading.specs.declared.reader.Reading.TheVariants.{Refused, Parts}
+use Rattle.reading.specs.declared.reader.Parts.{Parts}
 use Rattle.rules.specs.Rules.{Rules}
 use Rattle.hearing.specs.Hearing.{heard, hear_byte, hear_tick, begun, more, ended, later, keep}
 use Rattle.sending.specs.Events.{release, awaits, on_end, awaited_by}
 use Rattle.report.specs.Report.{news_reception, news_sending, news_session, news_reset}
-use Rattle.step.specs.Checks.{room_checks}
+use Rattle.step.specs.Checks.{room_checks, Checked}
 use Rattle.link.specs.Out.{Out, byte_by, byte_out, tick_out, open_out, news, quiet, run_from, run_out}
-use Rattle.step.specs.declared.checks.Checked.{Checked}
-use Rattle.step.specs.declared.checks.Checked.TheVariants.{Passes, Refuses}
 use Rattle.hearing.specs.declared.hearing.Partial.{Partial}
 use Rattle.hearing.specs.declared.hearing.Hearing.{Hearing}
 use Rattle.hearing.specs.declared.hearing.Hearing.TheVariants.{Hunting, Head, Body}
@@ -87,7 +86,7 @@ unfolding frame_of
 frame_is_whole kind command ps k =
     full (length ps + 3) (kind ∷ command ∷ (ps ++ (checksum (counted kind command ps) ∷ []))) refl (omega arith) (omega arith) (omega (arith, length-append ps (checksum (counted kind command ps) ∷ [])))
 
-pub read_is_whole : (xs : List ℕ) (kind command n : ℕ) → read xs ≡ Parts kind command n → get_or xs 1 0 < 256 → Whole xs
+pub read_is_whole : (xs : List ℕ) (kind command n : ℕ) → read xs ≡ Ok (frame_parts kind command n) → get_or xs 1 0 < 256 → Whole xs
 read_is_whole xs kind command n e k =
     let b = read_built xs kind command n e in
     let small : n ≤ 252 = b.3 k in
@@ -260,8 +259,8 @@ done_expects : (R : Rules) (xs : List ℕ) (t : ℕ) (zs : List ℕ) (l : Link) 
     → accepted (one_restart w) (done_by c (out_of R l w)) ≡ 0 → t + accepted (one_tick w) (done_by c (out_of R l w)) ≤ 1500
     → Expects xs t (if_taken (done_by c (out_of R l w)) (taken_by R l w) ++ zs) l
     → Expects xs (t + accepted (one_tick w) (done_by c (out_of R l w))) zs (next l (done_by c (out_of R l w)))
-done_expects R xs t zs l w Passes v n r k e = what_expects R xs t zs l w v n r k e
-done_expects R xs t zs l w (Refuses q) v n r k e = longer xs zs t (t + 0) l (omega arith) e
+done_expects R xs t zs l w (Ok _) v n r k e = what_expects R xs t zs l w v n r k e
+done_expects R xs t zs l w (Err q) v n r k e = longer xs zs t (t + 0) l (omega arith) e
 
 call_expects : (R : Rules) (xs : List ℕ) (t : ℕ) (zs : List ℕ) (l : Link) (c : Call) → Whole xs → 0 < length zs
     → accepted (one_restart c.what) (perform R l c) ≡ 0 → t + accepted (one_tick c.what) (perform R l c) ≤ 1500
@@ -364,7 +363,7 @@ ending R l b e up u =
     }
 
 -- what the reader says of them
-reads_short : (len : ℕ) → len < 3 → read (1 ∷ len ∷ []) ≡ Refused refusal.Length
+reads_short : (len : ℕ) → len < 3 → read (1 ∷ len ∷ []) ≡ Err refusal.Length
 reads_short len k = simp (lt-ltb len 3 k)
 
 eqb_turned : (a b : ℕ) → eqb a b ≡ eqb b a
@@ -374,8 +373,8 @@ eqb_turned a b = pick_by (λ (t : Bool). eqb a b ≡ t) (eqb b a) true false (λ
     same true = refl
     same false = refl
 
-abbrev reads_as : ℕ → ℕ → ℕ → Bool → Reading
-reads_as kind command n right = pick right (pick (ltb 1 kind) (Refused refusal.Kind) (Parts kind command n)) (Refused refusal.Sum)
+abbrev reads_as : ℕ → ℕ → ℕ → Bool → Result Parts Refusal
+reads_as kind command n right = pick right (pick (ltb 1 kind) (Err refusal.Kind) (Ok (frame_parts kind command n))) (Err refusal.Sum)
 
 reads_measured : (xs : List ℕ) (len : ℕ) → get_or xs 0 0 ≡ 1 → get_or xs 1 0 ≡ len → 3 ≤ len → length xs ≡ len + 2 → read xs ≡ measured_of xs len
 reads_measured xs len f c k n =
@@ -428,8 +427,8 @@ reserved_ends R l b clock len x y ps k =
     let e : ended p ≡ end.Reserved =
     ap (λ (t : Bool). pick t (end.Request (len - 1)) (pick (eqb x 1) (end.Response (len - 1) y) end.Reserved)) (ne_eqb x 0 zeroth)
     ∙ ap (λ (t : Bool). pick t (end.Response (len - 1) y) end.Reserved) (ne_eqb x 1 first) in
-    subst (λ (t : Bool). AsRead R l xs (pick t (Refused refusal.Kind) (Parts x y (len - 3))) (byte_by R l b (heard Hunting (Ended (ended p))))) (sym (lt-ltb 1 x k))
-    (subst (λ (z : End). AsRead R l xs (Refused refusal.Kind) (byte_by R l b (heard Hunting (Ended z)))) (sym e) (ending R l b end.Reserved [] refl))
+    subst (λ (t : Bool). AsRead R l xs (pick t (Err refusal.Kind) (Ok (frame_parts x y (len - 3)))) (byte_by R l b (heard Hunting (Ended (ended p))))) (sym (lt-ltb 1 x k))
+    (subst (λ (z : End). AsRead R l xs (Err refusal.Kind) (byte_by R l b (heard Hunting (Ended z)))) (sym e) (ending R l b end.Reserved [] refl))
 
 right_ends : (R : Rules) (l : Link) (b clock len x y : ℕ) (ps : List ℕ) → len ≡ length ps + 3 → take (suc (suc (length ps))) l.body ≡ x ∷ y ∷ ps
     → RightEnds R l b clock len x y ps
@@ -454,7 +453,7 @@ full_ends R l b clock len (x ∷ y ∷ ps) q k n d =
     let xs : List ℕ = 1 ∷ len ∷ x ∷ y ∷ (ps ++ (b ∷ [])) in
     let p = partial_of clock len (x ∷ y ∷ ps) in
     let e : len ≡ length ps + 3 = omega arith in
-    subst (λ (r : Reading). AsRead R l xs r (byte_out R l b)) (sym (reads_full len b x y ps e))
+    subst (λ (r : Result Parts Refusal). AsRead R l xs r (byte_out R l b)) (sym (reads_full len b x y ps e))
     (subst (AsRead R l xs (reads_as x y (len - 3) (eqb b p.sum))) (sym (checked R l b p q (omega arith)))
     (sum_ends R l b clock len x y ps (eqb b p.sum) e d))
 
@@ -462,8 +461,8 @@ short_ends : (R : Rules) (l : Link) (b c : ℕ) → l.core.hearing ≡ Head c �
 short_ends R l b c q k =
     let o : byte_out R l b ≡ byte_by R l b (heard Hunting (Ended end.BadLength)) =
     byte_at R l b (Head c) q ∙ ap (λ (x : Bool). byte_by R l b (pick x (heard Hunting (Ended end.BadLength)) (heard (Body (begun c b)) Inside))) (lt-ltb b 3 k) in
-    subst (λ (r : Reading). AsRead R l (1 ∷ b ∷ []) r (byte_out R l b)) (sym (reads_short b k))
-    (subst (AsRead R l (1 ∷ b ∷ []) (Refused refusal.Length)) (sym o) (ending R l b end.BadLength [] refl))
+    subst (λ (r : Result Parts Refusal). AsRead R l (1 ∷ b ∷ []) r (byte_out R l b)) (sym (reads_short b k))
+    (subst (AsRead R l (1 ∷ b ∷ []) (Err refusal.Length)) (sym o) (ending R l b end.BadLength [] refl))
 
 last_hears : (R : Rules) (xs : List ℕ) (t b : ℕ) (l : Link) (h : Hearing) → l.core.hearing ≡ h → Whole xs → StandsAt xs t l.body (b ∷ []) h
     → AsRead R l xs (read xs) (byte_out R l b)
@@ -484,7 +483,7 @@ last_hears R xs t b l (Body p) q w e = by (measured xs (e.bs ++ (b ∷ [])) e.le
 last_byte : (R : Rules) (xs : List ℕ) (t b : ℕ) (l : Link) → Whole xs → Expects xs t (b ∷ []) l → AsRead R l xs (read xs) (byte_out R l b)
 last_byte R xs t b l w e = last_hears R xs t b l l.core.hearing refl w e.hears
 
-same_sender : (R : Rules) (l z : Link) → SameSender l z → (xs : List ℕ) (r : Reading) (o : Out) → AsRead R z xs r o → AsRead R l xs r o
+same_sender : (R : Rules) (l z : Link) → SameSender l z → (xs : List ℕ) (r : Result Parts Refusal) (o : Out) → AsRead R z xs r o → AsRead R l xs r o
 same_sender R l z s xs r o a =
     subst (λ (j : Job). EndsBy (cancels_now R j) j (take l.core.size l.frame) xs r o) s.job
     (subst (λ (held : List ℕ). EndsBy (cancels_now R z.core.job) z.core.job held xs r o) s.held a)
@@ -545,19 +544,19 @@ frame_news false j held kind command ps o e =
     (pick_ok (λ (x : Reception). news_reception x ≡ true) (eqb kind 0) _ _ refl
     (pick_ok (λ (x : Reception). news_reception x ≡ true) (awaits command j) _ _ refl refl))
 
-as_read_news : (R : Rules) (l : Link) (xs : List ℕ) (r : Reading) (o : Out) → AsRead R l xs r o → news o ≡ true
-as_read_news R l xs (Refused refusal.Room) o e = absurd e
-as_read_news R l xs (Refused refusal.Busy) o e = absurd e
-as_read_news R l xs (Refused refusal.Kind) o e = ending_news e refl
-as_read_news R l xs (Refused refusal.Long) o e = absurd e
-as_read_news R l xs (Refused refusal.Short) o e = absurd e
-as_read_news R l xs (Refused refusal.Start) o e = absurd e
-as_read_news R l xs (Refused refusal.Length) o e = ending_news e refl
-as_read_news R l xs (Refused refusal.Tail) o e = absurd e
-as_read_news R l xs (Refused refusal.Sum) o e = ending_news e refl
-as_read_news R l xs (Refused refusal.Form) o e = absurd e
-as_read_news R l xs (Refused refusal.Range) o e = absurd e
-as_read_news R l xs (Parts kind command n) o e = frame_news (cancels_now R l.core.job) l.core.job _ kind command _ o e
+as_read_news : (R : Rules) (l : Link) (xs : List ℕ) (r : Result Parts Refusal) (o : Out) → AsRead R l xs r o → news o ≡ true
+as_read_news R l xs (Err refusal.Room) o e = absurd e
+as_read_news R l xs (Err refusal.Busy) o e = absurd e
+as_read_news R l xs (Err refusal.Kind) o e = ending_news e refl
+as_read_news R l xs (Err refusal.Long) o e = absurd e
+as_read_news R l xs (Err refusal.Short) o e = absurd e
+as_read_news R l xs (Err refusal.Start) o e = absurd e
+as_read_news R l xs (Err refusal.Length) o e = ending_news e refl
+as_read_news R l xs (Err refusal.Tail) o e = absurd e
+as_read_news R l xs (Err refusal.Sum) o e = ending_news e refl
+as_read_news R l xs (Err refusal.Form) o e = absurd e
+as_read_news R l xs (Err refusal.Range) o e = absurd e
+as_read_news R l xs (Ok r) o e = frame_news (cancels_now R l.core.job) l.core.job _ r.kind r.command _ o e
 
 from_as_read : (R : Rules) (xs : List ℕ) (t b : ℕ) (zs behind : List ℕ) (n : ℕ) (o : Out) → Whole xs → Expects xs t (b ∷ zs) o.link
     → RunAsRead R o.link xs (n + suc (length zs)) (run_from R o n (b ∷ (zs ++ behind)))

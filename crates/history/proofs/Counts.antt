@@ -1,5 +1,6 @@
 -- What the definitions of demand 3 count, on short histories that compute: each counts what it is named for.
 -- Assumes nothing.
+use Rattle.std.specs.Prelude.{None, Some}
 use Prim.Native.Nat.{ℕ}
 use mathlib.Core.Path.{◌≡◌, refl, ap}
 use mathlib.Core.Bool.{true, false, false≢true}
@@ -13,7 +14,6 @@ use Rattle.frame.specs.Frame.{REQ, ACK, NAK, CAN, frame_of}
 use Rattle.rules.specs.Rules.{is_module, usual, base}
 use Rattle.rules.specs.declared.Role.{Role}
 use Rattle.rules.specs.declared.Role.TheVariants.{Host, Module}
-use Rattle.job.specs.declared.job.Asking.TheVariants.{Plain, Asks}
 use Rattle.link.specs.Link.{fresh_link, no_body, no_frame}
 use Rattle.report.specs.declared.Sending.TheVariants as sending
 use Rattle.report.specs.declared.Session.TheVariants as sessions
@@ -25,12 +25,12 @@ use Rattle.history.specs.Cut.{frames, singles, IsAnswer, ack, nak, can}
 use Rattle.history.specs.Watch.{Verdict, acknowledged, failed, response, no_response, unsent, is_own, none, says, both, verdict_in, verdict_count, settled, watched, verdicts_from, abandons_from, lines_from}
 
 -- one verdict of a send that is acknowledged
-pub one_verdict : verdicts_from base Plain sent07 (lent (byte 0x06) ∷ []) ≡ 1
+pub one_verdict : verdicts_from base None sent07 (lent (byte 0x06) ∷ []) ≡ 1
 unfolding byte_out open_out frame_of fold no_body no_frame
 one_verdict = refl
 
 -- the bytes of a watch are those of the accepting call, and those of the call of the verdict
-pub verdict_bytes : watched base (Asks 0x07) asked07 (map (λ (b : ℕ). lent (byte b)) (0x06 ∷ 0x01 ∷ 0x03 ∷ 0x01 ∷ 0x07 ∷ 0xFA ∷ []))
+pub verdict_bytes : watched base (Some 0x07) asked07 (map (λ (b : ℕ). lent (byte b)) (0x06 ∷ 0x01 ∷ 0x03 ∷ 0x01 ∷ 0x07 ∷ 0xFA ∷ []))
     ≡ settled (response 1) 0 (0x01 ∷ 0x03 ∷ 0x00 ∷ 0x07 ∷ 0xFB ∷ 0x06 ∷ [])
 unfolding byte_out open_out frame_of fold no_body no_frame
 verdict_bytes = refl
@@ -47,17 +47,17 @@ unfolding byte_out tick_out open_out restart_out run_from frame_of fold no_body 
 accepted_counted = (refl, refl)
 
 -- A verdict is found in either part, whichever the send was; two are two. A session's ACK with waiting is none, its failure with not sent07 is one.
-pub both_parts : (c n m : ℕ) → (verdict_in Plain sending.Nothing (sessions.Response n) ≡ says (response n))
-    × (verdict_in Plain (sending.Acknowledged n) (sessions.Response m) ≡ both (acknowledged n) (response m))
-    × (verdict_in (Asks c) (sending.Failed n) sessions.Nothing ≡ says (failed n))
-    × (verdict_in (Asks c) (sending.Acknowledged n) sessions.Abandoned ≡ says (acknowledged n))
-    × (verdict_in (Asks c) (sending.Failed n) (sessions.Response m) ≡ both (response m) (failed n))
+pub both_parts : (c n m : ℕ) → (verdict_in None sending.Nothing (sessions.Response n) ≡ says (response n))
+    × (verdict_in None (sending.Acknowledged n) (sessions.Response m) ≡ both (acknowledged n) (response m))
+    × (verdict_in (Some c) (sending.Failed n) sessions.Nothing ≡ says (failed n))
+    × (verdict_in (Some c) (sending.Acknowledged n) sessions.Abandoned ≡ says (acknowledged n))
+    × (verdict_in (Some c) (sending.Failed n) (sessions.Response m) ≡ both (response m) (failed n))
 both_parts c n m = (refl, refl, refl, refl, refl)
 
-pub ack_or_failure : (c n m : ℕ) → (verdict_in (Asks c) (sending.Acknowledged n) sessions.Waiting ≡ none)
-    × (verdict_in (Asks c) (sending.Failed n) sessions.Waiting ≡ says (failed n))
-    × (verdict_in (Asks c) (sending.Failed n) (sessions.NotSent m) ≡ says (unsent m))
-    × (verdict_in (Asks c) (sending.Acknowledged n) (sessions.NotSent m) ≡ both (unsent m) (acknowledged n))
+pub ack_or_failure : (c n m : ℕ) → (verdict_in (Some c) (sending.Acknowledged n) sessions.Waiting ≡ none)
+    × (verdict_in (Some c) (sending.Failed n) sessions.Waiting ≡ says (failed n))
+    × (verdict_in (Some c) (sending.Failed n) (sessions.NotSent m) ≡ says (unsent m))
+    × (verdict_in (Some c) (sending.Acknowledged n) (sessions.NotSent m) ≡ both (unsent m) (acknowledged n))
 ack_or_failure c n m = (refl, refl, refl, refl)
 
 pub two_are_two : (v w : Verdict) → verdict_count (both v w) ≡ 2
@@ -89,7 +89,7 @@ answer_of_three b nak = refl
 answer_of_three b (can e) = refl
 
 -- each verdict is a send's or a session's, and not both
-pub own_apart : (c : ℕ) (v : Verdict) → is_own Plain v ≡ true → is_own (Asks c) v ≡ false
+pub own_apart : (c : ℕ) (v : Verdict) → is_own None v ≡ true → is_own (Some c) v ≡ false
 own_apart c (acknowledged n) e = refl
 own_apart c (failed n) e = refl
 own_apart c (response n) e = absurd (false≢true e)

@@ -1,5 +1,6 @@
 -- Demand 3 over all histories, for any rules that fit, and for those that hold.
 -- Assumes nothing.
+use Rattle.std.specs.Prelude.{None, Option, Some}
 use Prim.Native.Nat.{ℕ, ◌+◌, ◌≤◌}
 use mathlib.Core.Path.{◌≡◌, refl, subst, ◌∙◌, fun_ext}
 use mathlib.Core.Bool.{Bool, true, false}
@@ -24,10 +25,7 @@ use Rattle.link.specs.Out.{Out, open_out}
 use Rattle.step.specs.Checks.{room_checks}
 use Rattle.hearing.specs.declared.hearing.Hearing.{Hearing}
 use Rattle.hearing.specs.declared.hearing.Hearing.TheVariants.{Hunting, Head, Body}
-use Rattle.job.specs.declared.job.Asking.{Asking}
-use Rattle.job.specs.declared.job.Asking.TheVariants.{Plain, Asks}
 use Rattle.report.specs.declared.Reception.TheVariants as reception
-use Rattle.reception.specs.declared.said.Reply.TheVariants as reply
 use Rattle.report.specs.declared.Reset.TheVariants as reset
 use Rattle.link.specs.declared.link.Link.{Link}
 use Rattle.history.specs.Perform.{send, session, Call, checks_of}
@@ -57,16 +55,16 @@ room_most (Body p) = omega arith
 
 module _ (R : Rules) (g : ℕ → ℕ) (fit : Fits R g) where
   -- an accepted send or session holds its frame, and has so many ticks at most
-  pub open_gave : (l : Link) (a : Asking) (f : List ℕ) → InTime l.core.hearing
+  pub open_gave : (l : Link) (a : Option ℕ) (f : List ℕ) → InTime l.core.hearing
       → Outcome R g f a (bound R g a (length f)) 0 0 (verdict_of a (open_out l a f)) (open_out l a f)
   unfolding open_out
   open_gave l a f i =
       let h = l.core.hearing in
-      lifted R g fit f a l.body (over f l.frame) h (length f) l.core.choice (saying reception.Nothing reply.Silent 0) (run_of l.core.bad reset.Nothing)
+      lifted R g fit f a l.body (over f l.frame) h (length f) l.core.choice (saying reception.Nothing None 0) (run_of l.core.bad reset.Nothing)
       (start (is_hunting h) a 0) (bound R g a (length f)) 0 0 i (take-append_seam f _) finish
       (start_ok R g fit (length f) (is_hunting h) h (bound R g a (length f)) 0 0 a i (omega arith) (omega (arith, room_most h)))
 
-  open_unsaid : (l : Link) (a : Asking) (f : List ℕ) → NotAbandoned (open_out l a f)
+  open_unsaid : (l : Link) (a : Option ℕ) (f : List ℕ) → NotAbandoned (open_out l a f)
   unfolding open_out
   open_unsaid l a f = by (is_hunting l.core.hearing)
     where
@@ -74,7 +72,7 @@ module _ (R : Rules) (g : ℕ → ℕ) (fit : Fits R g) where
       by true = refl
       by false = refl
 
-  opened : (l : Link) (a : Asking) (f : List ℕ) → InTime l.core.hearing → IsFrame f → (k : List Call)
+  opened : (l : Link) (a : Option ℕ) (f : List ℕ) → InTime l.core.hearing → IsFrame f → (k : List Call)
       → Demand3 R a f (bound R g a (length f)) (open_out l a f) k
   opened l a f i w k =
       let o = open_out l a f in
@@ -97,22 +95,22 @@ module _ (R : Rules) (g : ℕ → ℕ) (fit : Fits R g) where
       }
 
   -- Take any history h, any send accepted after it, and any calls k after that.
-  pub send_demand3 : EverySend R (bound R g Plain)
+  pub send_demand3 : EverySend R (bound R g None)
   send_demand3 h k line up kind command ps o e =
       let f = frame_of kind command ps in
       let l = after R h in
-      subst (λ (z : Out). Demand3 R Plain f (bound R g Plain (length f)) z k)
-      (accepted_is (room_checks line up (checks_of l (send kind command ps))) (open_out l Plain f) o e).gave
-      (opened l Plain f (in_time R h) (frame_is kind command ps) k)
+      subst (λ (z : Out). Demand3 R None f (bound R g None (length f)) z k)
+      (accepted_is (room_checks line up (checks_of l (send kind command ps))) (open_out l None f) o e).gave
+      (opened l None f (in_time R h) (frame_is kind command ps) k)
 
   -- The same of a session; the bound is the same for every Command.
-  pub session_demand3 : EverySession R (bound R g (Asks 0))
+  pub session_demand3 : EverySession R (bound R g (Some 0))
   session_demand3 h k line up command ps o e =
       let f = frame_of 0 command ps in
       let l = after R h in
-      subst (λ (z : Out). Demand3 R (Asks command) f (bound R g (Asks command) (length f)) z k)
-      (accepted_is (room_checks line up (checks_of l (session command ps))) (open_out l (Asks command) f) o e).gave
-      (opened l (Asks command) f (in_time R h) (frame_is 0 command ps) k)
+      subst (λ (z : Out). Demand3 R (Some command) f (bound R g (Some command) (length f)) z k)
+      (accepted_is (room_checks line up (checks_of l (session command ps))) (open_out l (Some command) f) o e).gave
+      (opened l (Some command) f (in_time R h) (frame_is 0 command ps) k)
 
 -- ---- the rules of sending, which the host and the stand-in share: one theorem over what was chosen, and so over the mode
 pub rules_fit : (c : Choice) → Fits (rules_of c) (spare c.mode)
@@ -127,7 +125,7 @@ rules_fit c = record { wait = λ size. omega arith; late = late c.mode; early = 
     early Spaced n = omega arith
 
 -- in numbers: the mode's, what a session's response takes more, and four times the time on the wire
-bound_is : (c : Choice) (a : Asking) → bound (rules_of c) (spare c.mode) a ≡ (λ size. send_bound c.mode size + extra a)
+bound_is : (c : Choice) (a : Option ℕ) → bound (rules_of c) (spare c.mode) a ≡ (λ size. send_bound c.mode size + extra a)
 bound_is c a = fun_ext (λ size. by c.mode size)
   where
     by : (m : Mode) (size : ℕ) → 1501 + (ack_wait size + tail (ack_wait size) (spare m) 1 + extra a) ≡ send_bound m size + extra a
@@ -135,15 +133,15 @@ bound_is c a = fun_ext (λ size. by c.mode size)
     by Spaced size = omega arith
 
 -- a session's is a send's and what its response takes more
-session_more : (m : Mode) (size : ℕ) → send_bound m size + extra (Asks 0) ≡ session_bound m size
+session_more : (m : Mode) (size : ℕ) → send_bound m size + extra (Some 0) ≡ session_bound m size
 session_more Sooner size = omega arith
 session_more Spaced size = omega arith
 
 pub every_send : (c : Choice) → EverySend (rules_of c) (send_bound c.mode)
-every_send c = subst (EverySend (rules_of c)) (bound_is c Plain ∙ fun_ext (λ size. add-zero (send_bound c.mode size))) (send_demand3 (rules_of c) (spare c.mode) (rules_fit c))
+every_send c = subst (EverySend (rules_of c)) (bound_is c None ∙ fun_ext (λ size. add-zero (send_bound c.mode size))) (send_demand3 (rules_of c) (spare c.mode) (rules_fit c))
 
 pub every_session : (c : Choice) → EverySession (rules_of c) (session_bound c.mode)
-every_session c = subst (EverySession (rules_of c)) (bound_is c (Asks 0) ∙ fun_ext (session_more c.mode)) (session_demand3 (rules_of c) (spare c.mode) (rules_fit c))
+every_session c = subst (EverySession (rules_of c)) (bound_is c (Some 0) ∙ fun_ext (session_more c.mode)) (session_demand3 (rules_of c) (spare c.mode) (rules_fit c))
 
 pub host_demand3 : (m : Mode) → HostDemand3 m
 host_demand3 m = (every_send (record { role = Host; mode = m }), every_session (record { role = Host; mode = m }))

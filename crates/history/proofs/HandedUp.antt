@@ -1,5 +1,6 @@
 -- In any history, what a byte hands up is the body of a frame that the frame reader accepts, and whose bytes are the last received.
 -- Assumes nothing.
+use Rattle.std.specs.Prelude.{Err, Ok}
 use Prim.Native.Nat.{ℕ, zero, suc, ◌+◌, ◌-◌, ◌≤◌, ◌<◌}
 use mathlib.Core.Path.{◌≡◌, refl, ap, sym, ◌∙◌, subst}
 use mathlib.Core.Bool.{Bool, true, false}
@@ -17,9 +18,7 @@ use Rattle.rules.specs.declared.Choice.{Choice}
 use Rattle.hearing.specs.Hearing.{heard, hear_byte, hear_tick, hunted, more, ended, later, keep}
 use Rattle.link.specs.Link.{fresh_link, no_body}
 use Rattle.link.specs.Out.{Out, Taken, byte_by, byte_out, tick_out, open_out, restart_out, run_out, heard_out}
-use Rattle.step.specs.Checks.{room_checks}
-use Rattle.step.specs.declared.checks.Checked.{Checked}
-use Rattle.step.specs.declared.checks.Checked.TheVariants.{Passes, Refuses}
+use Rattle.step.specs.Checks.{room_checks, Checked}
 use Rattle.hearing.specs.declared.hearing.Partial.{Partial}
 use Rattle.hearing.specs.declared.hearing.Hearing.{Hearing}
 use Rattle.hearing.specs.declared.hearing.Hearing.TheVariants.{Hunting, Head, Body}
@@ -168,8 +167,8 @@ what_traced R xs l (session command ps) x t = same_bytes xs _ (record { hears = 
 what_traced R xs l restart x t = same_bytes xs _ (record { hears = tt; body = refl })
 
 done_traced : (xs bs : List ℕ) (l : Link) (c : Checked) (o : Out) → Traced xs l → Traced (xs ++ bs) o.link → Traced (xs ++ if_taken (done_by c o) bs) (next l (done_by c o))
-done_traced xs bs l Passes o t u = u
-done_traced xs bs l (Refuses k) o t u = same_bytes xs l t
+done_traced xs bs l (Ok _) o t u = u
+done_traced xs bs l (Err k) o t u = same_bytes xs l t
 
 history_traced : (R : Rules) (h : List Call) (xs : List ℕ) (l : Link) → ComeAll IsByte h → Traced xs l → Traced (xs ++ received R l h) (run R l h)
 history_traced R [] xs l x t = same_bytes xs l t

@@ -1,5 +1,6 @@
 -- An open send or session on a link: what every call but a restart does to it.
 -- Assumes nothing.
+use Rattle.std.specs.Prelude.{None, Option, Some}
 use Prim.Native.Nat.{ℕ, ◌+◌, ◌≤◌}
 use mathlib.Core.Path.{◌≡◌, refl, ap, sym, ◌∙◌, subst}
 use mathlib.Core.Bool.{Bool, true, false, false≢true}
@@ -19,13 +20,10 @@ use Rattle.hearing.specs.declared.hearing.Event.{Event}
 use Rattle.hearing.specs.declared.hearing.Event.TheVariants.{Inside, Kept, Skipped, Alone, Ended, TickHunting, TickInside, Aborted}
 use Rattle.hearing.specs.declared.hearing.Heard.{Heard}
 use Rattle.job.specs.declared.job.Act.{Act}
-use Rattle.job.specs.declared.job.Asking.{Asking}
 use Rattle.job.specs.declared.job.Job.{Job}
 use Rattle.job.specs.declared.job.Job.TheVariants.{Idle}
 use Rattle.report.specs.declared.Sending.TheVariants as sending
 use Rattle.report.specs.declared.Session.TheVariants as session
-use Rattle.reception.specs.declared.said.Reply.{Reply}
-use Rattle.reception.specs.declared.said.Reply.TheVariants as reply
 use Rattle.reception.specs.declared.said.Said.{Said}
 use Rattle.reception.specs.declared.sums.Sums.{Sums}
 use Rattle.link.specs.declared.link.Link.{Link}
@@ -46,11 +44,13 @@ use Rattle.rules.specs.declared.Role.{Role}
 use Rattle.rules.specs.declared.Role.TheVariants.{Host, Module}
 use Rattle.rules.specs.declared.Choice.{Choice}
 use Rattle.reception.specs.Sums.{sums_on}
+use Rattle.hearing.specs.declared.hearing.Single.{Single}
+use Rattle.hearing.specs.declared.hearing.Single.TheVariants as single
 
 -- ---- a byte whose report is no more than "nothing" or "skipped" changes the job in nothing, puts nothing out and hands nothing up
 pub record Calm (R : Rules) (size : ℕ) (e : Event) (j : Job) : Type 0 where
   pub job : on_event R size e j ≡ still j
-  pub silent : (said_on R.choice.role e (awaited_by j)).reply ≡ reply.Silent
+  pub silent : (said_on R.choice.role e (awaited_by j)).reply ≡ None
   pub none_up : (said_on R.choice.role e (awaited_by j)).up ≡ 0
 
 calm : (R : Rules) (size : ℕ) (e : Event) (j : Job) → ticks_at e ≡ 0 → news_reception (said_on R.choice.role e (awaited_by j)).reception ≡ false → news_sending (on_event R size e j).sending ≡ false → Calm R size e j
@@ -70,10 +70,10 @@ calm_byte R l b r t e =
 
 pub calm_line : (R : Rules) (size : ℕ) (e : Event) (j : Job) (held : List ℕ) → Calm R size e j → reply_bytes (said_on R.choice.role e (awaited_by j)).reply ++ pick (on_event R size e j).copy held [] ≡ []
 calm_line R size e j held m =
-    ap (λ (y : Reply). reply_bytes y ++ pick (on_event R size e j).copy held []) m.silent ∙ ap (λ (y : Act). pick y.copy held []) m.job
+    ap (λ (y : Option Single). reply_bytes y ++ pick (on_event R size e j).copy held []) m.silent ∙ ap (λ (y : Act). pick y.copy held []) m.job
 
 -- ---- a link with an open send or session of the frame f
-pub record Sends (R : Rules) (f : List ℕ) (a : Asking) (l : Link) : Type 0 where
+pub record Sends (R : Rules) (f : List ℕ) (a : Option ℕ) (l : Link) : Type 0 where
   pub time : InTime l.core.hearing
   pub good : Good R l.core.size l.core.hearing a l.core.job
   pub held : take l.core.size l.frame ≡ f
@@ -82,7 +82,7 @@ abbrev pub left_on : Rules → (ℕ → ℕ) → Link → ℕ
 left_on R g l = left R g l.core.size l.core.hearing l.core.job
 
 -- a call in t ticks with no verdict: L ticks were left and n copies had gone out before it
-pub record Goes (R : Rules) (g : ℕ → ℕ) (f : List ℕ) (a : Asking) (L n t : ℕ) (o : Out) : Type 0 where
+pub record Goes (R : Rules) (g : ℕ → ℕ) (f : List ℕ) (a : Option ℕ) (L n t : ℕ) (o : Out) : Type 0 where
   pub sends : Sends R f a o.link
   pub less : left_on R g o.link + t ≤ L
   pub more : ℕ
@@ -90,7 +90,7 @@ pub record Goes (R : Rules) (g : ℕ → ℕ) (f : List ℕ) (a : Asking) (L n t
   pub count : copies_of o.link.core.job ≡ n + more
 
 -- and with a verdict
-pub record Ends (role : Role) (f : List ℕ) (a : Asking) (L n t : ℕ) (v : Verdict) (line : List ℕ) : Type 0 where
+pub record Ends (role : Role) (f : List ℕ) (a : Option ℕ) (L n t : ℕ) (v : Verdict) (line : List ℕ) : Type 0 where
   pub soon : t ≤ L
   pub own : is_own a v ≡ true
   pub more : ℕ
@@ -99,13 +99,13 @@ pub record Ends (role : Role) (f : List ℕ) (a : Asking) (L n t : ℕ) (v : Ver
   pub few : copies_in v ≤ 4
   pub four : is_failure v ≡ true → copies_in v ≡ 4
 
-abbrev pub Outcome : Rules → (ℕ → ℕ) → List ℕ → Asking → ℕ → ℕ → ℕ → Says → Out → Type 0
+abbrev pub Outcome : Rules → (ℕ → ℕ) → List ℕ → Option ℕ → ℕ → ℕ → ℕ → Says → Out → Type 0
 Outcome R g f a L n t none o = Goes R g f a L n t o
 Outcome R g f a L n t (says v) o = Ends R.choice.role f a L n t v o.line × (o.link.core.job ≡ Idle)
 Outcome R g f a L n t (both v w) o = ⊥
 
 -- ---- what is answered: 06 or 15; 18 by a stand-in alone
-frame_mix : (role : Role) (f : List ℕ) (w : Awaited) → Mix role f 0 (reply_bytes (pick (cancels role w) reply.Can reply.Ack))
+frame_mix : (role : Role) (f : List ℕ) (w : Awaited) → Mix role f 0 (reply_bytes (Some (pick (cancels role w) single.Can single.Ack)))
 frame_mix Host f w = one 6 ack finish
 frame_mix Module f awaited.Nothing = one 6 ack finish
 frame_mix Module f awaited.Ack = one 24 (can refl) finish
@@ -132,7 +132,7 @@ copy_mix : (role : Role) (f l : List ℕ) → l ≡ f → (c : Bool) → Mix rol
 copy_mix role f l e true = subst (λ (z : List ℕ). Mix role f 1 z) (append-nil f ∙ sym e) (copy finish)
 copy_mix role f l e false = finish
 
-module _ (R : Rules) (g : ℕ → ℕ) (fit : Fits R g) (f : List ℕ) (a : Asking) where
+module _ (R : Rules) (g : ℕ → ℕ) (fit : Fits R g) (f : List ℕ) (a : Option ℕ) where
   -- what the job's act comes to on the line, for any Says
   lift : (s : Says) (body frame : List ℕ) (h : Hearing) (size : ℕ) (k : Choice) (q : Said) (z : Sums) (x : Act) (L n t : ℕ) → InTime h → take size frame ≡ f
       → Mix R.choice.role f 0 (reply_bytes q.reply) → Claim R g size h L n t s a x.job x.copy

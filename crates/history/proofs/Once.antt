@@ -1,5 +1,6 @@
 -- What is said and put out until another send or session is accepted: its verdict once and no more, no copy past it, and abandoned only where a restart came before it.
 -- Assumes nothing.
+use Rattle.std.specs.Prelude.{Err, None, Ok, Option, Some}
 use Prim.Native.Nat.{ℕ, ◌+◌, ◌≤◌}
 use mathlib.Core.Path.{◌≡◌, refl, ap, ap₂, sym, ◌∙◌, subst}
 use mathlib.Core.Bool.{Bool, true, false}
@@ -19,10 +20,8 @@ use Rattle.reception.specs.Said.{reply_bytes, said_on}
 use Rattle.reception.specs.declared.said.Awaited.{Awaited}
 use Rattle.rules.specs.declared.Role.{Role}
 use Rattle.link.specs.Out.{Out, Taken, byte_out, tick_out, restart_out, news, run_from, run_out, quiet}
-use Rattle.step.specs.Checks.{room_checks}
+use Rattle.step.specs.Checks.{room_checks, Checked, passes}
 use Rattle.step.proofs.Passed.{room_passed}
-use Rattle.step.specs.declared.checks.Checked.{Checked}
-use Rattle.step.specs.declared.checks.Checked.TheVariants.{Passes, Refuses}
 use Rattle.hearing.specs.declared.hearing.Hearing.{Hearing}
 use Rattle.hearing.specs.declared.hearing.Single.{Single}
 use Rattle.hearing.specs.declared.hearing.Single.TheVariants.{Ack, Nak, Can}
@@ -31,8 +30,6 @@ use Rattle.hearing.specs.declared.hearing.End.TheVariants as end
 use Rattle.hearing.specs.declared.hearing.Event.{Event}
 use Rattle.hearing.specs.declared.hearing.Event.TheVariants.{Inside, Kept, Skipped, Alone, Ended, TickHunting, TickInside, Aborted}
 use Rattle.job.specs.declared.job.Act.{Act}
-use Rattle.job.specs.declared.job.Asking.{Asking}
-use Rattle.job.specs.declared.job.Asking.TheVariants.{Plain, Asks}
 use Rattle.job.specs.declared.job.Job.{Job}
 use Rattle.job.specs.declared.job.Job.TheVariants.{Idle, Due, Waiting, BackingOff, Awaiting}
 use Rattle.report.specs.declared.Sending.TheVariants as sending
@@ -54,21 +51,21 @@ use Rattle.history.proofs.Watching.{none_free}
 abbrev Unsaid : Act → Type 0
 Unsaid x = abandons_in x.sending x.session ≡ 0
 
-start_unsaid : (hunting : Bool) (a : Asking) (n : ℕ) → Unsaid (start hunting a n)
+start_unsaid : (hunting : Bool) (a : Option ℕ) (n : ℕ) → Unsaid (start hunting a n)
 start_unsaid true a n = refl
 start_unsaid false a n = refl
 
-fail_unsaid : (a : Asking) (n : ℕ) → Unsaid (fail a n)
-fail_unsaid Plain n = refl
-fail_unsaid (Asks c) n = refl
+fail_unsaid : (a : Option ℕ) (n : ℕ) → Unsaid (fail a n)
+fail_unsaid None n = refl
+fail_unsaid (Some c) n = refl
 
-lose_unsaid : (R : Rules) (cause : Cause) (hunting : Bool) (a : Asking) (n : ℕ) → Unsaid (lose R cause hunting a n)
+lose_unsaid : (R : Rules) (cause : Cause) (hunting : Bool) (a : Option ℕ) (n : ℕ) → Unsaid (lose R cause hunting a n)
 lose_unsaid R cause hunting a n =
     pick_ok Unsaid (ltb n 4) _ _ (pick_ok Unsaid (eqb (R.back cause n) 0) _ _ (start_unsaid hunting a n) refl) (fail_unsaid a n)
 
-ack_unsaid : (a : Asking) (n : ℕ) → Unsaid (acknowledge a n)
-ack_unsaid Plain n = refl
-ack_unsaid (Asks c) n = refl
+ack_unsaid : (a : Option ℕ) (n : ℕ) → Unsaid (acknowledge a n)
+ack_unsaid None n = refl
+ack_unsaid (Some c) n = refl
 
 single_unsaid : (R : Rules) (s : Single) (j : Job) → Unsaid (on_single R s j)
 single_unsaid R s Idle = refl
@@ -139,19 +136,19 @@ pub run_unsaid : (R : Rules) (l : Link) (bs : List ℕ) → NotAbandoned (run_ou
 run_unsaid R l bs = from_unsaid R bs 0 (quiet l) refl
 
 -- a restart does, of an open send or session, in one part; its verdict is none
-record Dropped (a : Asking) : Type 0 where
+record Dropped (a : Option ℕ) : Type 0 where
   send : send_verdict (abandoned_send a) ≡ none
   ask : session_verdict (abandoned_ask a) ≡ none
   said : abandons_in (abandoned_send a) (abandoned_ask a) ≡ 1
 
-dropped : (a : Asking) → Dropped a
-dropped Plain = record { send = refl; ask = refl; said = refl }
-dropped (Asks c) = record { send = refl; ask = refl; said = refl }
+dropped : (a : Option ℕ) → Dropped a
+dropped None = record { send = refl; ask = refl; said = refl }
+dropped (Some c) = record { send = refl; ask = refl; said = refl }
 
-drop_none : (a b : Asking) → verdict_in a (abandoned_send b) (abandoned_ask b) ≡ none
+drop_none : (a b : Option ℕ) → verdict_in a (abandoned_send b) (abandoned_ask b) ≡ none
 drop_none a b = no_verdict a _ _ (dropped b).send (dropped b).ask
 
-restart_none : (a : Asking) (l : Link) → verdict_of a (restart_out l) ≡ none
+restart_none : (a : Option ℕ) (l : Link) → verdict_of a (restart_out l) ≡ none
 unfolding restart_out
 restart_none a l = by l.core.job
   where
@@ -160,17 +157,17 @@ restart_none a l = by l.core.job
     by (Due b n) = drop_none a b
     by (Waiting b n e) = drop_none a b
     by (BackingOff b n e) = drop_none a b
-    by (Awaiting c n e) = drop_none a (Asks c)
+    by (Awaiting c n e) = drop_none a (Some c)
 
-restart_says : {R : Rules} {f : List ℕ} {a : Asking} {l : Link} → Sends R f a l → abandons_in (restart_out l).sending (restart_out l).session ≡ 1
+restart_says : {R : Rules} {f : List ℕ} {a : Option ℕ} {l : Link} → Sends R f a l → abandons_in (restart_out l).sending (restart_out l).session ≡ 1
 unfolding restart_out
 restart_says d = by d.good
   where
-    by : {R : Rules} {size : ℕ} {h : Hearing} {a : Asking} {j : Job} → Good R size h a j → abandons_in (on_restart j).sending (on_restart j).session ≡ 1
+    by : {R : Rules} {size : ℕ} {h : Hearing} {a : Option ℕ} {j : Job} → Good R size h a j → abandons_in (on_restart j).sending (on_restart j).session ≡ 1
     by (due {a} k w) = (dropped a).said
     by (waits {a} p k w) = (dropped a).said
     by (backs {a} p k w) = (dropped a).said
-    by (awaiting {c} p k w) = (dropped (Asks c)).said
+    by (awaiting {c} p k w) = (dropped (Some c)).said
 
 restart_idle : (l : Link) → (restart_out l).link.core.job ≡ Idle
 unfolding restart_out
@@ -204,24 +201,24 @@ act_rests R size Aborted = record { send = refl; ask = refl; idle = refl; copy =
 acts_rests : (R : Rules) (size : ℕ) (e : Event) (j : Job) → j ≡ Idle → Still (on_event R size e j)
 acts_rests R size e j q = subst (λ (x : Job). Still (on_event R size e x)) (sym q) (act_rests R size e)
 
-pub record Rests (role : Role) (f : List ℕ) (a : Asking) (o : Out) : Type 0 where
+pub record Rests (role : Role) (f : List ℕ) (a : Option ℕ) (o : Out) : Type 0 where
   pub verdict : verdict_of a o ≡ none
   pub unsaid : NotAbandoned o
   pub line : Mix role f 0 o.line
   pub idle : o.link.core.job ≡ Idle
 
 -- the calls of a link with nothing open, until a send or session is accepted
-record Resting (role : Role) (f : List ℕ) (a : Asking) (os : List Out) : Type 0 where
+record Resting (role : Role) (f : List ℕ) (a : Option ℕ) (os : List Out) : Type 0 where
   line : Mix role f 0 (lines_of os)
   verdicts : verdicts_of a os ≡ 0
   abandons : abandons_of os ≡ 0
 
-done_by_lem : (P : Watch → List Out → Type 0) (a : Asking) (w : What) (l : Link) (c : Checked) (o : Out) (k : Link → Watch) (m : Link → List Out)
-    → P (k l) (m l) → (c ≡ Passes → P (watch_taken a w o (k o.link)) (outs_taken w o (m o.link))) → P (watch_done a w l (done_by c o) k) (outs_done w l (done_by c o) m)
-done_by_lem P a w l Passes o k m p q = q refl
-done_by_lem P a w l (Refuses r) o k m p q = p
+done_by_lem : (P : Watch → List Out → Type 0) (a : Option ℕ) (w : What) (l : Link) (c : Checked) (o : Out) (k : Link → Watch) (m : Link → List Out)
+    → P (k l) (m l) → (c ≡ passes → P (watch_taken a w o (k o.link)) (outs_taken w o (m o.link))) → P (watch_done a w l (done_by c o) k) (outs_done w l (done_by c o) m)
+done_by_lem P a w l (Ok _) o k m p q = q refl
+done_by_lem P a w l (Err r) o k m p q = p
 
-module _ (R : Rules) (f : List ℕ) (a : Asking) where
+module _ (R : Rules) (f : List ℕ) (a : Option ℕ) where
   no_copy_lem : (e : Event) (w : Awaited) (x : Bool) (l : List ℕ) → x ≡ false → Mix R.choice.role f 0 (reply_bytes (said_on R.choice.role e w).reply ++ pick x l [])
   no_copy_lem e w x l q =
       subst (λ (y : Bool). Mix R.choice.role f 0 (reply_bytes (said_on R.choice.role e w).reply ++ pick y l [])) (sym q)
@@ -305,7 +302,7 @@ SpentBy m (going t l) = Unit {0}
 SpentBy m restarted_first = Unit {0}
 SpentBy m (settled v t l) = copies_in v ≡ m
 
-pub record Sofar (role : Role) (f : List ℕ) (a : Asking) (n : ℕ) (w : Watch) (os : List Out) : Type 0 where
+pub record Sofar (role : Role) (f : List ℕ) (a : Option ℕ) (n : ℕ) (w : Watch) (os : List Out) : Type 0 where
   pub more : ℕ
   pub mix : Mix role f more (lines_of os)
   pub few : n + more ≤ 4
@@ -328,7 +325,7 @@ add_abandons t l (going u k) = refl
 add_abandons t l restarted_first = refl
 add_abandons t l (settled v u k) = refl
 
-module _ (R : Rules) (g : ℕ → ℕ) (fit : Fits R g) (f : List ℕ) (a : Asking) where
+module _ (R : Rules) (g : ℕ → ℕ) (fit : Fits R g) (f : List ℕ) (a : Option ℕ) where
   onward_sofar : (s : Says) (L n t : ℕ) (o : Out) (w : Watch) (os : List Out) → verdict_of a o ≡ s → NotAbandoned o → Outcome R g f a L n t s o
       → (Sends R f a o.link → Sofar R.choice.role f a (copies_of o.link.core.job) w os) → (o.link.core.job ≡ Idle → Resting R.choice.role f a os)
       → Sofar R.choice.role f a n (onward s t o.line w) (o ∷ os)
@@ -365,7 +362,7 @@ module _ (R : Rules) (g : ℕ → ℕ) (fit : Fits R g) (f : List ℕ) (a : Aski
         abandoned = ap₂ (λ (y n : ℕ). y + n) (restart_says d) r.abandons;
       }
 
-  taken_sofar : (w : What) (l : Link) (k : Link → Watch) (m : Link → List Out) → Sends R f a l → checks_of l w ≡ Passes
+  taken_sofar : (w : What) (l : Link) (k : Link → Watch) (m : Link → List Out) → Sends R f a l → checks_of l w ≡ passes
       → ((z : Link) → Sends R f a z → Sofar R.choice.role f a (copies_of z.core.job) (k z) (m z)) → ((z : Link) → z.core.job ≡ Idle → Resting R.choice.role f a (m z))
       → Sofar R.choice.role f a (copies_of l.core.job) (watch_taken a w (out_of R l w) (k (out_of R l w).link)) (outs_taken w (out_of R l w) (m (out_of R l w).link))
   taken_sofar (byte b) l k m d e i j =

@@ -1,5 +1,6 @@
--- What the link's calls promise is what a history performs: the links handed back, the answers, and every lent byte.
+-- What the link's calls promise is what a history performs: the links that are left, the answers, and every lent byte.
 -- Assumes nothing.
+use Rattle.std.specs.Prelude.{Err, None, Ok, Some}
 use Prim.Native.Nat.{ℕ, ◌+◌}
 use mathlib.Core.Path.{◌≡◌, refl, ap, ◌∙◌, subst}
 use mathlib.Core.List.{List, [], ◌∷◌}
@@ -8,15 +9,10 @@ use Rattle.frame.specs.Bytes.{over}
 use Rattle.frame.specs.Frame.{frame_of, REQ}
 use Rattle.rules.specs.Rules.{Rules, rules_of}
 use Rattle.rules.specs.declared.Choice.{Choice}
-use Rattle.job.specs.declared.job.Asking.TheVariants.{Plain, Asks}
 use Rattle.link.specs.Link.{fresh_link}
 use Rattle.link.specs.Out.{Out, Taken, byte_out, tick_out, open_out, restart_out, news, quiet, run_from, run_out}
-use Rattle.step.specs.Checks.{checks, room_checks, send_own, session_own}
-use Rattle.step.specs.declared.checks.Checked.{Checked}
-use Rattle.step.specs.declared.checks.Checked.TheVariants.{Passes, Refuses}
-use Rattle.link.specs.Calls.{answered, ran, left, CallPromise, RunPromise}
-use Rattle.link.specs.declared.calls.Answered.{Answered}
-use Rattle.link.specs.declared.calls.Ran.{Ran}
+use Rattle.step.specs.Checks.{checks, room_checks, send_own, session_own, Checked, passes}
+use Rattle.link.specs.Calls.{Answered, Ran, answered, ran, left, CallPromise, RunPromise}
 use Rattle.link.specs.declared.link.Link.{Link}
 use Rattle.refusals.proofs.Picks.{pick_ok}
 use Rattle.history.specs.Perform.{What, byte, bytes, tick, send, session, restart, Call, checks_of, out_of, Done, done_by, perform}
@@ -24,28 +20,28 @@ use Rattle.history.specs.History.{next, run, after}
 use Rattle.history.specs.Played.{by_call, by_run, Played, played, Promised, byte_call, bytes_call, tick_call, send_call, session_call, restart_call, Plays, no_calls, then, call_of, calls_of, answer_of, run_answer_of, line_of, up_of, AllTied, Performs}
 
 next_is : (c : Checked) (o : Out) (l : Link) → (answered c o l).link ≡ next l (done_by c o)
-next_is Passes o l = refl
-next_is (Refuses k) o l = refl
+next_is (Ok _) o l = refl
+next_is (Err k) o l = refl
 
 answer_is : (c : Checked) (o : Out) (l : Link) → (answered c o l).answer ≡ answer_of (done_by c o)
-answer_is Passes o l = refl
-answer_is (Refuses k) o l = refl
+answer_is (Ok _) o l = refl
+answer_is (Err k) o l = refl
 
 line_is : (c : Checked) (o : Out) (lent : List ℕ) → left c o.line lent ≡ over (line_of (done_by c o)) lent
-line_is Passes o lent = refl
-line_is (Refuses k) o lent = refl
+line_is (Ok _) o lent = refl
+line_is (Err k) o lent = refl
 
 up_is : (c : Checked) (o : Out) (lent : List ℕ) → left c o.up lent ≡ over (up_of (done_by c o)) lent
-up_is Passes o lent = refl
-up_is (Refuses k) o lent = refl
+up_is (Ok _) o lent = refl
+up_is (Err k) o lent = refl
 
 ran_next : (c : Checked) (t : Taken) (l : Link) → (ran c t l).link ≡ next l (done_by c t.out)
-ran_next Passes t l = refl
-ran_next (Refuses k) t l = refl
+ran_next (Ok _) t l = refl
+ran_next (Err k) t l = refl
 
 ran_answer : (c : Checked) (t : Taken) (l : Link) → (ran c t l).answer ≡ run_answer_of t.taken (done_by c t.out)
-ran_answer Passes t l = refl
-ran_answer (Refuses k) t l = refl
+ran_answer (Ok _) t l = refl
+ran_answer (Err k) t l = refl
 
 -- ---- one call
 -- what a call that keeps a promise with these checks and this step does, as any history does it
@@ -68,43 +64,43 @@ call_matches own o l line up r line' up' p =
 
 module _ (R : Rules) (l : Link) where
   -- Each call's promise, over the very text of its contract, is what the history's call does.
-  pub byte_tied : (b : ℕ) (line up : List ℕ) (r : Answered) (line' up' : List ℕ) → CallPromise Passes (byte_out R l b) l line up r line' up'
+  pub byte_tied : (b : ℕ) (line up : List ℕ) (r : Answered) (line' up' : List ℕ) → CallPromise passes (byte_out R l b) l line up r line' up'
       → Performs R l (played (byte b) line up (by_call r.answer) line' up') r.link
   byte_tied b line up r line' up' p =
-      let m = call_matches Passes (byte_out R l b) l line up r line' up' p in
+      let m = call_matches passes (byte_out R l b) l line up r line' up' p in
       record { link = m.link; tied = record { told = ap by_call m.answer; line_left = m.line_left; up_left = m.up_left } }
 
-  pub tick_tied : (line up : List ℕ) (r : Answered) (line' up' : List ℕ) → CallPromise Passes (tick_out R l) l line up r line' up'
+  pub tick_tied : (line up : List ℕ) (r : Answered) (line' up' : List ℕ) → CallPromise passes (tick_out R l) l line up r line' up'
       → Performs R l (played tick line up (by_call r.answer) line' up') r.link
   tick_tied line up r line' up' p =
-      let m = call_matches Passes (tick_out R l) l line up r line' up' p in
+      let m = call_matches passes (tick_out R l) l line up r line' up' p in
       record { link = m.link; tied = record { told = ap by_call m.answer; line_left = m.line_left; up_left = m.up_left } }
 
   pub send_tied : (kind command : ℕ) (ps line up : List ℕ) (r : Answered) (line' up' : List ℕ)
-      → CallPromise (send_own l.core.job kind (length ps)) (open_out l Plain (frame_of kind command ps)) l line up r line' up'
+      → CallPromise (send_own l.core.job kind (length ps)) (open_out l None (frame_of kind command ps)) l line up r line' up'
       → Performs R l (played (send kind command ps) line up (by_call r.answer) line' up') r.link
   send_tied kind command ps line up r line' up' p =
-      let m = call_matches (send_own l.core.job kind (length ps)) (open_out l Plain (frame_of kind command ps)) l line up r line' up' p in
+      let m = call_matches (send_own l.core.job kind (length ps)) (open_out l None (frame_of kind command ps)) l line up r line' up' p in
       record { link = m.link; tied = record { told = ap by_call m.answer; line_left = m.line_left; up_left = m.up_left } }
 
   pub session_tied : (command : ℕ) (ps line up : List ℕ) (r : Answered) (line' up' : List ℕ)
-      → CallPromise (session_own l.core.job (length ps)) (open_out l (Asks command) (frame_of REQ command ps)) l line up r line' up'
+      → CallPromise (session_own l.core.job (length ps)) (open_out l (Some command) (frame_of REQ command ps)) l line up r line' up'
       → Performs R l (played (session command ps) line up (by_call r.answer) line' up') r.link
   session_tied command ps line up r line' up' p =
-      let m = call_matches (session_own l.core.job (length ps)) (open_out l (Asks command) (frame_of REQ command ps)) l line up r line' up' p in
+      let m = call_matches (session_own l.core.job (length ps)) (open_out l (Some command) (frame_of REQ command ps)) l line up r line' up' p in
       record { link = m.link; tied = record { told = ap by_call m.answer; line_left = m.line_left; up_left = m.up_left } }
 
-  pub restart_tied : (line up : List ℕ) (r : Answered) (line' up' : List ℕ) → CallPromise Passes (restart_out l) l line up r line' up'
+  pub restart_tied : (line up : List ℕ) (r : Answered) (line' up' : List ℕ) → CallPromise passes (restart_out l) l line up r line' up'
       → Performs R l (played restart line up (by_call r.answer) line' up') r.link
   restart_tied line up r line' up' p =
-      let m = call_matches Passes (restart_out l) l line up r line' up' p in
+      let m = call_matches passes (restart_out l) l line up r line' up' p in
       record { link = m.link; tied = record { told = ap by_call m.answer; line_left = m.line_left; up_left = m.up_left } }
 
   -- and a run of bytes
   pub run_tied : (bs line up : List ℕ) (r : Ran) (line' up' : List ℕ) → RunPromise (run_out R l bs) l line up r line' up'
       → Performs R l (played (bytes bs) line up (by_run r.answer) line' up') r.link
   run_tied bs line up r line' up' p =
-      let c = checks line up Passes in
+      let c = checks line up passes in
       let t = run_out R l bs in
       record {
         link = ap (λ (z : Ran). z.link) p.answer ∙ ran_next c t l;
@@ -142,8 +138,8 @@ what_keeps R l (session command ps) = refl
 what_keeps R l restart = refl
 
 done_keeps : (l : Link) (c : Checked) (o : Out) → o.link.core.choice ≡ l.core.choice → (next l (done_by c o)).core.choice ≡ l.core.choice
-done_keeps l Passes o e = e
-done_keeps l (Refuses k) o e = refl
+done_keeps l (Ok _) o e = e
+done_keeps l (Err k) o e = refl
 
 pub choice_kept : (R : Rules) (l : Link) (c : Call) → (next l (perform R l c)).core.choice ≡ l.core.choice
 choice_kept R l c = done_keeps l (room_checks c.line c.up (checks_of l c.what)) (out_of R l c.what) (what_keeps R l c.what)

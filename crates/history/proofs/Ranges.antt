@@ -1,5 +1,6 @@
 -- On links reached from opening no guard is ever met: every number is in its range.
 -- Assumes nothing.
+use Rattle.std.specs.Prelude.{None, Option, Some}
 use Prim.Native.Nat.{ℕ, ◌+◌, ◌≤◌, ◌<◌}
 use mathlib.Core.Path.{◌≡◌, refl, sym, ◌∙◌, subst}
 use mathlib.Core.Bool.{Bool, true, false}
@@ -35,8 +36,6 @@ use Rattle.hearing.specs.declared.hearing.Event.{Event}
 use Rattle.hearing.specs.declared.hearing.Event.TheVariants.{Inside, Kept, Skipped, Alone, Ended, TickHunting, TickInside, Aborted}
 use Rattle.hearing.specs.declared.hearing.Heard.{Heard}
 use Rattle.job.specs.declared.job.Act.{Act}
-use Rattle.job.specs.declared.job.Asking.{Asking}
-use Rattle.job.specs.declared.job.Asking.TheVariants.{Plain, Asks}
 use Rattle.job.specs.declared.job.Job.{Job}
 use Rattle.job.specs.declared.job.Job.TheVariants.{Idle, Due, Waiting, BackingOff, Awaiting}
 use Rattle.link.specs.declared.link.Link.{Link}
@@ -159,30 +158,30 @@ body_254 R h = (after_keeps R Any Sizes (sizes_keeps R) h (any_calls h)).body
 -- ---- the job: idle, or open and good
 data Fine (R : Rules) (size : ℕ) (h : Hearing) (j : Job) : Type 0 where
   idle : j ≡ Idle → Fine R size h j
-  active : (a : Asking) → Good R size h a j → Fine R size h j
+  active : (a : Option ℕ) → Good R size h a j → Fine R size h j
 
 record FineOn (R : Rules) (l : Link) : Type 0 where
   time : InTime l.core.hearing
   job : Fine R l.core.size l.core.hearing l.core.job
 
-outcome_fine : (R : Rules) (g : ℕ → ℕ) (f : List ℕ) (a : Asking) (s : Says) (L n t : ℕ) (o : Out) → Outcome R g f a L n t s o
+outcome_fine : (R : Rules) (g : ℕ → ℕ) (f : List ℕ) (a : Option ℕ) (s : Says) (L n t : ℕ) (o : Out) → Outcome R g f a L n t s o
     → Fine R o.link.core.size o.link.core.hearing o.link.core.job
 outcome_fine R g f a none L n t o c = active a c.sends.good
 outcome_fine R g f a (says v) L n t o c = idle c.1
 outcome_fine R g f a (both v w) L n t o c = absurd c
 
 module _ (R : Rules) (g : ℕ → ℕ) (fit : Fits R g) where
-  sends : (l : Link) (a : Asking) → InTime l.core.hearing → Good R l.core.size l.core.hearing a l.core.job → Sends R (take l.core.size l.frame) a l
+  sends : (l : Link) (a : Option ℕ) → InTime l.core.hearing → Good R l.core.size l.core.hearing a l.core.job → Sends R (take l.core.size l.frame) a l
   sends l a i d = record { time = i; good = d; held = refl }
 
   byte_fine : (l : Link) (b : ℕ) → InTime l.core.hearing → (j : Fine R l.core.size l.core.hearing l.core.job)
       → Fine R (byte_out R l b).link.core.size (byte_out R l b).link.core.hearing (byte_out R l b).link.core.job
-  byte_fine l b i (idle e) = idle (byte_rests R [] Plain l b e).idle
+  byte_fine l b i (idle e) = idle (byte_rests R [] None l b e).idle
   byte_fine l b i (active a d) = outcome_fine R g _ a (verdict_of a (byte_out R l b)) _ _ 0 (byte_out R l b) (byte_gave R g fit _ a l b (sends l a i d))
 
   tick_fine : (l : Link) → InTime l.core.hearing → (j : Fine R l.core.size l.core.hearing l.core.job)
       → Fine R (tick_out R l).link.core.size (tick_out R l).link.core.hearing (tick_out R l).link.core.job
-  tick_fine l i (idle e) = idle (tick_rests R [] Plain l e).idle
+  tick_fine l i (idle e) = idle (tick_rests R [] None l e).idle
   tick_fine l i (active a d) = outcome_fine R g _ a (verdict_of a (tick_out R l)) _ _ 1 (tick_out R l) (tick_gave R g fit _ a l (sends l a i d))
 
   byte_time : (l : Link) (b : ℕ) → InTime l.core.hearing → InTime (byte_out R l b).link.core.hearing
@@ -193,7 +192,7 @@ module _ (R : Rules) (g : ℕ → ℕ) (fit : Fits R g) where
   unfolding tick_out
   tick_time l i = (tick_steps l.core.hearing i).ok
 
-  open_time : (l : Link) (a : Asking) (f : List ℕ) → InTime l.core.hearing → InTime (open_out l a f).link.core.hearing
+  open_time : (l : Link) (a : Option ℕ) (f : List ℕ) → InTime l.core.hearing → InTime (open_out l a f).link.core.hearing
   unfolding open_out
   open_time l a f i = i
 
@@ -220,19 +219,19 @@ module _ (R : Rules) (most : ℕ) (longest : (cause : Cause) (n : ℕ) → R.bac
   abbrev S : Act → Type 0
   S x = Short most x.job
 
-  start_short : (hunting : Bool) (a : Asking) (n : ℕ) → S (start hunting a n)
+  start_short : (hunting : Bool) (a : Option ℕ) (n : ℕ) → S (start hunting a n)
   start_short true a n = tt
   start_short false a n = tt
 
-  lose_short : (cause : Cause) (hunting : Bool) (a : Asking) (n : ℕ) → S (lose R cause hunting a n)
+  lose_short : (cause : Cause) (hunting : Bool) (a : Option ℕ) (n : ℕ) → S (lose R cause hunting a n)
   lose_short cause hunting a n =
       pick_ok S (ltb n 4) _ _ (pick_ok S (eqb (R.back cause n) 0) _ _ (start_short hunting a n) (longest cause n)) tt
 
   single_short : (s : Single) (j : Job) → Short most j → S (on_single R s j)
   single_short s Idle k = tt
   single_short s (Due a n) k = tt
-  single_short Ack (Waiting Plain n e) k = tt
-  single_short Ack (Waiting (Asks c) n e) k = tt
+  single_short Ack (Waiting None n e) k = tt
+  single_short Ack (Waiting (Some c) n e) k = tt
   single_short Nak (Waiting a n e) k = lose_short Told true a n
   single_short Can (Waiting a n e) k = lose_short Told true a n
   single_short s (BackingOff a n b) k = k
@@ -291,7 +290,7 @@ inside Hunting w = w
 inside (Head c) w = tt
 inside (Body p) w = tt
 
-good_in : {R : Rules} {size : ℕ} {h : Hearing} {a : Asking} {j : Job} (most : ℕ) → Good R size h a j → Short most j → JobIn R most size h j
+good_in : {R : Rules} {size : ℕ} {h : Hearing} {a : Option ℕ} {j : Job} (most : ℕ) → Good R size h a j → Short most j → JobIn R most size h j
 good_in {h = h} most (due k w) s = (k, inside h w)
 good_in most (waits p k w) s = (p, k, w)
 good_in most (backs p k w) s = (p, k, w, s)

@@ -6,9 +6,10 @@ use mathlib.Core.Bool.{Bool, true, false}
 use mathlib.Core.List.{List, [], ◌∷◌}
 use lib.ListN.{length, take}
 use Rattle.frame.specs.Frame.{START, RES, CAN, MAX_PARAMETERS, MAX_BODY, counted, checksum, frame_of}
-use Rattle.reading.specs.Reader.{parameters_of}
-use Rattle.reading.specs.declared.reader.Reading.{Reading}
-use Rattle.reading.specs.declared.reader.Reading.TheVariants.{Parts}
+use Rattle.std.specs.Prelude.{Result, Ok}
+use Rattle.reading.specs.Reader.{frame_parts, parameters_of}
+use Rattle.reading.specs.declared.reader.Parts.{Parts}
+use Rattle.refusals.specs.declared.Refusal.{Refusal}
 use Rattle.reading.proofs.Theorems.{built_reads}
 use Rattle.rules.specs.Rules.{Rules}
 use Rattle.link.specs.Out.{byte_out}
@@ -31,12 +32,12 @@ due_at_most l (Awaiting c n e) = no_copy
 
 -- The frame that `build` gives, byte by byte to a link that hunts: what its last byte does, as the frame reader reads the frame.
 built_as_read : (R : Rules) (l : Link) (kind command : ℕ) (ps : List ℕ) → l.core.hearing ≡ Hunting → length l.body ≡ MAX_BODY → kind ≤ RES → length ps ≤ MAX_PARAMETERS
-    → AsRead R l (frame_of kind command ps) (Parts kind command (length ps)) (byte_out R (feed R l (START ∷ counted kind command ps)) (checksum (counted kind command ps)))
+    → AsRead R l (frame_of kind command ps) (Ok (frame_parts kind command (length ps))) (byte_out R (feed R l (START ∷ counted kind command ps)) (checksum (counted kind command ps)))
 unfolding frame_of
 built_as_read R l kind command ps q r k n =
     let b = checksum (counted kind command ps) in
     let o = byte_out R (feed R l (START ∷ counted kind command ps)) b in
-    subst (λ (z : Reading). AsRead R l (frame_of kind command ps) z o) (built_reads kind command ps k).0 (fed_as_read R l (START ∷ counted kind command ps) b q r (frame_is_whole kind command ps n))
+    subst (λ (z : Result Parts Refusal). AsRead R l (frame_of kind command ps) z o) (built_reads kind command ps k).0 (fed_as_read R l (START ∷ counted kind command ps) b q r (frame_is_whole kind command ps n))
 
 -- Its last byte hands up its body, unless it is a stand-in's that waits for an ACK.
 pub receives : (R : Rules) (l : Link) (kind command : ℕ) (ps : List ℕ) → cancels_now R l.core.job ≡ false → l.core.hearing ≡ Hunting → length l.body ≡ MAX_BODY

@@ -1,5 +1,6 @@
 -- Section 11's errors to shut out, and section 4's answers, on any link whatever.
 -- Assumes nothing.
+use Rattle.std.specs.Prelude.{None, Option, Some}
 use Prim.Native.Nat.{ℕ, ◌+◌, ◌≤◌, ◌<◌}
 use mathlib.Core.Path.{◌≡◌, refl, ap, sym, ◌∙◌, subst}
 use mathlib.Core.Bool.{Bool, false}
@@ -27,16 +28,15 @@ use Rattle.hearing.specs.declared.hearing.End.TheVariants as end
 use Rattle.hearing.specs.declared.hearing.Event.TheVariants.{Inside, Kept, Ended, TickInside, Aborted}
 use Rattle.hearing.specs.declared.hearing.Heard.{Heard}
 use Rattle.job.specs.declared.job.Act.{Act}
-use Rattle.job.specs.declared.job.Asking.{Asking}
 use Rattle.job.specs.declared.job.Job.{Job}
 use Rattle.job.specs.declared.job.Job.TheVariants.{Idle, Due, Waiting, BackingOff, Awaiting}
 use Rattle.report.specs.declared.Reception.TheVariants as reception
-use Rattle.reception.specs.declared.said.Reply.{Reply}
-use Rattle.reception.specs.declared.said.Reply.TheVariants as reply
 use Rattle.link.specs.declared.link.Link.{Link}
 use Rattle.history.specs.Ranges.{IsInside}
 use Rattle.history.specs.Section11.{clock_of, cancels_now, NothingOrCopy, EndsAs, InFrame, unended, ends, Ticked, counts, aborts, GoesOut, end_answer, DueByte, stays, leaves, DueTick, still_due, out_by_abort, AtMostCopy, no_copy, one_copy}
 use Rattle.refusals.proofs.Picks.{through, pick_by, pick_ok}
+use Rattle.hearing.specs.declared.hearing.Single.{Single}
+use Rattle.hearing.specs.declared.hearing.Single.TheVariants as single
 
 -- ---- what a byte inside a frame can be
 data InsideByte (h : Hearing) : Heard → Type 0 where
@@ -64,7 +64,7 @@ end_says end.Reserved j = release_says j
 end_says (end.Request size) j = release_says j
 end_says (end.Response size command) j = pick_ok (λ (x : Act). NothingOrCopy x.sending) (awaits command j) _ _ tt (release_says j)
 
-end_waits : (e : End) (j : Job) (a : Asking) (n t : ℕ) → j ≡ Waiting a n t → (on_end e j).job ≡ Waiting a n t
+end_waits : (e : End) (j : Job) (a : Option ℕ) (n t : ℕ) → j ≡ Waiting a n t → (on_end e j).job ≡ Waiting a n t
 end_waits end.BadLength j a n t q = ap (λ (x : Job). (release x).job) q
 end_waits end.BadSum j a n t q = ap (λ (x : Job). (release x).job) q
 end_waits end.Reserved j a n t q = ap (λ (x : Job). (release x).job) q
@@ -107,7 +107,7 @@ pub inside_ticks : (R : Rules) (l : Link) → IsInside l.core.hearing → Ticked
 unfolding tick_out
 inside_ticks R l i = ticked R l (hear_tick l.core.hearing) (inside_tick l.core.hearing i)
 
-goes_out : (R : Rules) (l : Link) (body answer : List ℕ) (a : Asking) (n : ℕ) (r : Heard) → reply_bytes (said_on R.choice.role r.event (awaited_by l.core.job)).reply ≡ answer
+goes_out : (R : Rules) (l : Link) (body answer : List ℕ) (a : Option ℕ) (n : ℕ) (r : Heard) → reply_bytes (said_on R.choice.role r.event (awaited_by l.core.job)).reply ≡ answer
     → on_event R l.core.size r.event l.core.job ≡ put_out a n → GoesOut a n answer l (heard_out R l.core body l.frame r)
 goes_out R l body answer a n r s x =
     let held = take l.core.size l.frame in
@@ -122,11 +122,11 @@ pub end_reply : (R : Rules) (e : End) (j : Job) → reply_bytes (said_end R.choi
 end_reply R end.BadLength j = refl
 end_reply R end.BadSum j = refl
 end_reply R end.Reserved j = refl
-end_reply R (end.Request size) j = through reply_bytes (cancels_now R j) reply.Can reply.Ack
-end_reply R (end.Response size command) j = through reply_bytes (cancels_now R j) reply.Can reply.Ack
+end_reply R (end.Request size) j = through (λ (s : Single). reply_bytes (Some s)) (cancels_now R j) single.Can single.Ack
+end_reply R (end.Response size command) j = through (λ (s : Single). reply_bytes (Some s)) (cancels_now R j) single.Can single.Ack
 
 -- nothing is cancelled but while an ACK is awaited, and by the host never
-pub only_while_waiting : (role : Role) (j : Job) → ((a : Asking) (n t : ℕ) → j ≡ Waiting a n t → ⊥) → cancels role (awaited_by j) ≡ false
+pub only_while_waiting : (role : Role) (j : Job) → ((a : Option ℕ) (n t : ℕ) → j ≡ Waiting a n t → ⊥) → cancels role (awaited_by j) ≡ false
 only_while_waiting Host j k = refl
 only_while_waiting Module Idle k = refl
 only_while_waiting Module (Due a n) k = refl
@@ -137,18 +137,18 @@ only_while_waiting Module (Awaiting c n e) k = refl
 pub host_never : (j : Job) → cancels Host (awaited_by j) ≡ false
 host_never j = refl
 
-due_cancels_none : (role : Role) (a : Asking) (n : ℕ) → cancels role (awaited_by (Due a n)) ≡ false
+due_cancels_none : (role : Role) (a : Option ℕ) (n : ℕ) → cancels role (awaited_by (Due a n)) ≡ false
 due_cancels_none Host a n = refl
 due_cancels_none Module a n = refl
 
-end_puts : (e : End) (a : Asking) (n : ℕ) → on_end e (Due a n) ≡ put_out a n
+end_puts : (e : End) (a : Option ℕ) (n : ℕ) → on_end e (Due a n) ≡ put_out a n
 end_puts end.BadLength a n = refl
 end_puts end.BadSum a n = refl
 end_puts end.Reserved a n = refl
 end_puts (end.Request size) a n = refl
 end_puts (end.Response size command) a n = refl
 
-due_in_frame : (R : Rules) (l : Link) (b : ℕ) (a : Asking) (n : ℕ) (r : Heard) → l.core.job ≡ Due a n → InsideByte l.core.hearing r → DueByte R a n l (byte_by R l b r)
+due_in_frame : (R : Rules) (l : Link) (b : ℕ) (a : Option ℕ) (n : ℕ) (r : Heard) → l.core.job ≡ Due a n → InsideByte l.core.hearing r → DueByte R a n l (byte_by R l b r)
 due_in_frame R l b a n r q (at_length i c) =
     stays (record { inside = i; clock = c; job = refl; sending = refl; session = refl; reception = refl; reset = refl; line = refl; up = refl })
 due_in_frame R l b a n r q (at_body at i c) =
@@ -158,29 +158,29 @@ due_in_frame R l b a n r q (at_end e) =
     leaves e (ends_as R l b e)
     (goes_out R l l.body (end_answer false e) a n (heard Hunting (Ended e)) (end_reply R e l.core.job ∙ ap (λ (x : Bool). end_answer x e) none) (ap (on_end e) q ∙ end_puts e a n))
 
-pub due_byte : (R : Rules) (l : Link) (b : ℕ) (a : Asking) (n : ℕ) → l.core.job ≡ Due a n → IsInside l.core.hearing → DueByte R a n l (byte_out R l b)
+pub due_byte : (R : Rules) (l : Link) (b : ℕ) (a : Option ℕ) (n : ℕ) → l.core.job ≡ Due a n → IsInside l.core.hearing → DueByte R a n l (byte_out R l b)
 unfolding byte_out
 due_byte R l b a n q i = due_in_frame R l b a n (hear_byte b l.core.hearing) q (inside_byte b l.core.hearing i)
 
-due_in_tick : (R : Rules) (l : Link) (a : Asking) (n : ℕ) (r : Heard) → l.core.job ≡ Due a n → InsideTick l.core.hearing r
+due_in_tick : (R : Rules) (l : Link) (a : Option ℕ) (n : ℕ) (r : Heard) → l.core.job ≡ Due a n → InsideTick l.core.hearing r
     → DueTick a n l (heard_out R l.core l.body l.frame r)
 due_in_tick R l a n r q (ticks_on i c k) = still_due i (ap (λ (j : Job). (on_tick R l.core.size false j).job) q)
 due_in_tick R l a n r q (ticks_over k) = out_by_abort refl (goes_out R l l.body [] a n (heard Hunting Aborted) refl (ap (on_abort R l.core.size) q))
 
-pub due_tick : (R : Rules) (l : Link) (a : Asking) (n : ℕ) → l.core.job ≡ Due a n → IsInside l.core.hearing → DueTick a n l (tick_out R l)
+pub due_tick : (R : Rules) (l : Link) (a : Option ℕ) (n : ℕ) → l.core.job ≡ Due a n → IsInside l.core.hearing → DueTick a n l (tick_out R l)
 unfolding tick_out
 due_tick R l a n q i = due_in_tick R l a n (hear_tick l.core.hearing) q (inside_tick l.core.hearing i)
 
 pub at_most : (l : Link) (c : Bool) → AtMostCopy l (pick c (take l.core.size l.frame) [])
 at_most l c = pick_ok (AtMostCopy l) c _ _ one_copy no_copy
 
-tick_puts : (R : Rules) (l : Link) (r : Heard) → ((j : Job) → (said_on R.choice.role r.event (awaited_by j)).reply ≡ reply.Silent) → AtMostCopy l (heard_out R l.core l.body l.frame r).line
+tick_puts : (R : Rules) (l : Link) (r : Heard) → ((j : Job) → (said_on R.choice.role r.event (awaited_by j)).reply ≡ None) → AtMostCopy l (heard_out R l.core l.body l.frame r).line
 tick_puts R l r s =
     let c = (on_event R l.core.size r.event l.core.job).copy in
-    subst (λ (y : Reply). AtMostCopy l (reply_bytes y ++ pick c (take l.core.size l.frame) [])) (sym (s l.core.job)) (at_most l c)
+    subst (λ (y : Option Single). AtMostCopy l (reply_bytes y ++ pick c (take l.core.size l.frame) [])) (sym (s l.core.job)) (at_most l c)
 
 abbrev Silent : Role → Heard → Type 0
-Silent role r = (j : Job) → (said_on role r.event (awaited_by j)).reply ≡ reply.Silent
+Silent role r = (j : Job) → (said_on role r.event (awaited_by j)).reply ≡ None
 
 tick_silent : (role : Role) (h : Hearing) → Silent role (hear_tick h)
 tick_silent role Hunting = λ j. refl

@@ -5,6 +5,7 @@
 --     stand_ins_host                       the host that it is: of the same mode
 -- A send, a session and a restart ask for no rules: they are the same by definition.
 -- Assumes nothing.
+use Rattle.std.specs.Prelude.{Option}
 use Prim.Native.Nat.{ℕ, zero, suc, ◌+◌, ◌≤◌}
 use mathlib.Core.Path.{◌≡◌, refl, ap, ap₂, sym, ◌∙◌, subst}
 use mathlib.Core.Bool.{Bool, false}
@@ -34,7 +35,6 @@ use Rattle.reception.specs.declared.said.Said.{Said}
 use Rattle.reception.proofs.Theorems.{alike}
 use Rattle.job.specs.Job.{still}
 use Rattle.job.specs.declared.job.Act.{Act}
-use Rattle.job.specs.declared.job.Asking.{Asking}
 use Rattle.job.specs.declared.job.Job.{Job}
 use Rattle.job.specs.declared.job.Job.TheVariants.{Waiting}
 use Rattle.sending.specs.Events.{awaited_by, on_end}
@@ -52,7 +52,7 @@ use Rattle.history.proofs.Section11.{checked}
 
 -- ---- what is cancelled
 -- the end of a frame, while a copy waits
-waits_on : (e : End) (a : Asking) (n t : ℕ) → on_end e (Waiting a n t) ≡ still (Waiting a n t)
+waits_on : (e : End) (a : Option ℕ) (n t : ℕ) → on_end e (Waiting a n t) ≡ still (Waiting a n t)
 waits_on end.BadLength a n t = refl
 waits_on end.BadSum a n t = refl
 waits_on end.Reserved a n t = refl
@@ -64,7 +64,7 @@ data IsFrameEnd : End → Type 0 where
   request : (size : ℕ) → IsFrameEnd (end.Request size)
   response : (size command : ℕ) → IsFrameEnd (end.Response size command)
 
-end_cancels : (R : Rules) (k : Core) (body frame : List ℕ) (e : End) → IsFrameEnd e → R.choice.role ≡ Module → (a : Asking) (n t : ℕ)
+end_cancels : (R : Rules) (k : Core) (body frame : List ℕ) (e : End) → IsFrameEnd e → R.choice.role ≡ Module → (a : Option ℕ) (n t : ℕ)
     → Cancels (record { core = record { hearing = k.hearing; job = Waiting a n t; bad = k.bad; size = k.size; choice = k.choice }; body = body; frame = frame })
     (heard_out R (record { hearing = k.hearing; job = Waiting a n t; bad = k.bad; size = k.size; choice = k.choice }) body frame (heard Hunting (Ended e)))
 end_cancels R k body frame (end.Request size) (request s) m a n t =
@@ -82,7 +82,7 @@ is_frame_end p (suc (suc k)) q h = absurd (omega arith)
 
 -- "While it waits for an ACK, a frame of type 00 or 01 with the right checksum is answered with 18, reported as cancelled and not handed up": judged when the
 -- Checksum comes.
-pub cancels_frame : (R : Rules) → R.choice.role ≡ Module → (l : Link) (b : ℕ) (p : Partial) (a : Asking) (n t : ℕ) → l.core.job ≡ Waiting a n t
+pub cancels_frame : (R : Rules) → R.choice.role ≡ Module → (l : Link) (b : ℕ) (p : Partial) (a : Option ℕ) (n t : ℕ) → l.core.job ≡ Waiting a n t
     → l.core.hearing ≡ Body p → p.size ≤ p.at → b ≡ p.sum → p.kind ≤ RES → Cancels l (byte_out R l b)
 cancels_frame R m l b p a n t w q k e h =
     let at : Job → Link = λ j. record { core = record { hearing = l.core.hearing; job = j; bad = l.core.bad; size = l.core.size; choice = l.core.choice }; body = l.body; frame = l.frame } in

@@ -1,5 +1,6 @@
 -- An open send or session watched over any calls: the ticks left, the copies, the verdict.
 -- Assumes nothing.
+use Rattle.std.specs.Prelude.{Err, Ok, Option}
 use Prim.Native.Nat.{ℕ, ◌+◌, ◌≤◌, ◌<◌}
 use mathlib.Core.Path.{◌≡◌, refl, ap, sym, ◌∙◌, subst}
 use mathlib.Core.Bool.{true, false≢true}
@@ -12,11 +13,8 @@ use Rattle.rules.specs.declared.Role.{Role}
 use Rattle.job.specs.Job.{is_open}
 use Rattle.sending.specs.Events.{copies_of}
 use Rattle.link.specs.Out.{Out}
-use Rattle.step.specs.Checks.{room_checks}
-use Rattle.step.specs.declared.checks.Checked.{Checked}
-use Rattle.step.specs.declared.checks.Checked.TheVariants.{Passes, Refuses}
+use Rattle.step.specs.Checks.{room_checks, Checked, passes}
 use Rattle.hearing.specs.declared.hearing.Hearing.{Hearing}
-use Rattle.job.specs.declared.job.Asking.{Asking}
 use Rattle.job.specs.declared.job.Job.{Job}
 use Rattle.link.specs.declared.link.Link.{Link}
 use Rattle.history.specs.Perform.{What, byte, bytes, tick, send, session, restart, Call, checks_of, out_of, Done, refused, took, done_by, perform}
@@ -38,28 +36,28 @@ pub record Mid (role : Role) (f : List ℕ) (L n t : ℕ) (line : List ℕ) : Ty
   pub mix : Mix role f more line
   pub few : n + more ≤ 4
 
-abbrev pub Watched : Role → List ℕ → Asking → ℕ → ℕ → Watch → Type 0
+abbrev pub Watched : Role → List ℕ → Option ℕ → ℕ → ℕ → Watch → Type 0
 Watched role f a L n (going t line) = Mid role f L n t line
 Watched role f a L n restarted_first = Unit {0}
 Watched role f a L n (settled v t line) = Ends role f a L n t v line
 
-pub is_open_lem : {R : Rules} {size : ℕ} {h : Hearing} {a : Asking} {job : Job} → Good R size h a job → is_open job ≡ true
+pub is_open_lem : {R : Rules} {size : ℕ} {h : Hearing} {a : Option ℕ} {job : Job} → Good R size h a job → is_open job ≡ true
 is_open_lem (due k w) = refl
 is_open_lem (waits p k w) = refl
 is_open_lem (backs p k w) = refl
 is_open_lem (awaiting p k w) = refl
 
 -- while one is open none is accepted
-pub none_free : {R : Rules} {f : List ℕ} {a : Asking} {l : Link} {n : ℕ} → Sends R f a l → Free l n → ⊥
+pub none_free : {R : Rules} {f : List ℕ} {a : Option ℕ} {l : Link} {n : ℕ} → Sends R f a l → Free l n → ⊥
 none_free d w = false≢true (sym w.idle ∙ is_open_lem d.good)
 
 -- a call refused or accepted
-done_by_lem : (P : Watch → Type 0) (a : Asking) (w : What) (l : Link) (c : Checked) (o : Out) (k : Link → Watch)
-    → P (k l) → (c ≡ Passes → P (watch_taken a w o (k o.link))) → P (watch_done a w l (done_by c o) k)
-done_by_lem P a w l Passes o k p q = q refl
-done_by_lem P a w l (Refuses r) o k p q = p
+done_by_lem : (P : Watch → Type 0) (a : Option ℕ) (w : What) (l : Link) (c : Checked) (o : Out) (k : Link → Watch)
+    → P (k l) → (c ≡ passes → P (watch_taken a w o (k o.link))) → P (watch_done a w l (done_by c o) k)
+done_by_lem P a w l (Ok _) o k p q = q refl
+done_by_lem P a w l (Err r) o k p q = p
 
-module _ (R : Rules) (g : ℕ → ℕ) (fit : Fits R g) (f : List ℕ) (a : Asking) where
+module _ (R : Rules) (g : ℕ → ℕ) (fit : Fits R g) (f : List ℕ) (a : Option ℕ) where
   abbrev OnWatch : Link → Watch → Type 0
   OnWatch l w = Watched R.choice.role f a (left_on R g l) (copies_of l.core.job) w
 
@@ -84,7 +82,7 @@ module _ (R : Rules) (g : ℕ → ℕ) (fit : Fits R g) (f : List ℕ) (a : Aski
   onward_ok (says v) L n t o w c k = c.0
   onward_ok (both v u) L n t o w c k = absurd c
 
-  taken_ok : (w : What) (l : Link) (k : Link → Watch) → Sends R f a l → checks_of l w ≡ Passes → ((z : Link) → Sends R f a z → OnWatch z (k z))
+  taken_ok : (w : What) (l : Link) (k : Link → Watch) → Sends R f a l → checks_of l w ≡ passes → ((z : Link) → Sends R f a z → OnWatch z (k z))
       → OnWatch l (watch_taken a w (out_of R l w) (k (out_of R l w).link))
   taken_ok (byte b) l k d e i = onward_ok (verdict_of a (out_of R l (byte b))) _ _ 0 _ _ (byte_gave R g fit f a l b d) (i _)
   taken_ok (bytes bs) l k d e i = onward_ok (verdict_of a (out_of R l (bytes bs))) _ _ 0 _ _ (run_gave R g fit f a l bs d) (i _)
@@ -106,7 +104,7 @@ copies_are {f = f} {n = n} i m = let e = mix_frames i m in e ∙ ap (λ (k : ℕ
 pub copies_number : {role : Role} {f : List ℕ} {n : ℕ} {l : List ℕ} → IsFrame f → Mix role f n l → length (frames l) ≡ n
 copies_number {f = f} {n = n} i m = ap length (mix_frames i m) ∙ length-replicate n f
 
-pub kept : (role : Role) (f : List ℕ) (a : Asking) (L : ℕ) (w : Watch) → IsFrame f → Watched role f a L 0 w → Kept a f L w
+pub kept : (role : Role) (f : List ℕ) (a : Option ℕ) (L : ℕ) (w : Watch) → IsFrame f → Watched role f a L 0 w → Kept a f L w
 kept role f a L (going t l) i k = record { soon = k.soon; copies = copies_are i k.mix; few = omega (arith, k.few, copies_number i k.mix) }
 kept role f a L restarted_first i k = tt
 kept role f a L (settled v t l) i k =
@@ -129,7 +127,7 @@ onward_counts none t n l w e = add_counts t n l w e
 onward_counts (says v) t n l w e = tt
 onward_counts (both v u) t n l w e = tt
 
-taken_counts : (a : Asking) (w : What) (o : Out) (n : ℕ) (k : Watch) → Counts n k → Counts (one_tick w + n) (watch_taken a w o k)
+taken_counts : (a : Option ℕ) (w : What) (o : Out) (n : ℕ) (k : Watch) → Counts n k → Counts (one_tick w + n) (watch_taken a w o k)
 taken_counts a (byte b) o n k e = onward_counts (verdict_of a o) 0 n o.line k e
 taken_counts a (bytes bs) o n k e = onward_counts (verdict_of a o) 0 n o.line k e
 taken_counts a tick o n k e = onward_counts (verdict_of a o) 1 n o.line k e
@@ -137,21 +135,21 @@ taken_counts a (send kind command ps) o n k e = onward_counts (verdict_of a o) 0
 taken_counts a (session command ps) o n k e = onward_counts (verdict_of a o) 0 n o.line k e
 taken_counts a restart o n k e = tt
 
-done_counts : (a : Asking) (w : What) (l : Link) (d : Done) (k : Link → Watch) (n : Link → ℕ) → ((z : Link) → Counts (n z) (k z))
+done_counts : (a : Option ℕ) (w : What) (l : Link) (d : Done) (k : Link → Watch) (n : Link → ℕ) → ((z : Link) → Counts (n z) (k z))
     → Counts (accepted (one_tick w) d + n (next l d)) (watch_done a w l d k)
 done_counts a w l (refused r) k n i = subst (λ (x : ℕ). Counts x (k l)) (sym (zero-add (n l))) (i l)
 done_counts a w l (took o) k n i = taken_counts a w o (n o.link) (k o.link) (i o.link)
 
-watch_counts : (R : Rules) (a : Asking) (h : List Call) (l : Link) → Counts (ticks_in R l h) (watch R a l h)
+watch_counts : (R : Rules) (a : Option ℕ) (h : List Call) (l : Link) → Counts (ticks_in R l h) (watch R a l h)
 watch_counts R a [] l = refl
 watch_counts R a (c ∷ h) l = done_counts a c.what l (perform R l c) (λ z. watch R a z h) (λ z. ticks_in R z h) (watch_counts R a h)
 
-over : (a : Asking) (f : List ℕ) (bound n : ℕ) (w : Watch) → Kept a f bound w → Counts n w → bound ≤ n → IsOver w
+over : (a : Option ℕ) (f : List ℕ) (bound n : ℕ) (w : Watch) → Kept a f bound w → Counts n w → bound ≤ n → IsOver w
 over a f bound n (going t l) k e b = absurd (omega (arith, k.soon))
 over a f bound n restarted_first k e b = tt
 over a f bound n (settled v t l) k e b = tt
 
-pub watched_over : (R : Rules) (a : Asking) (f : List ℕ) (bound : ℕ) (o : Out) (h : List Call) → Kept a f bound (watched R a o h) → bound ≤ ticks_in R o.link h → IsOver (watched R a o h)
+pub watched_over : (R : Rules) (a : Option ℕ) (f : List ℕ) (bound : ℕ) (o : Out) (h : List Call) → Kept a f bound (watched R a o h) → bound ≤ ticks_in R o.link h → IsOver (watched R a o h)
 watched_over R a f bound o h k b =
     over a f bound (0 + ticks_in R o.link h) (watched R a o h) k (onward_counts (verdict_of a o) 0 (ticks_in R o.link h) o.line (watch R a o.link h) (watch_counts R a h o.link)) (omega arith)
 
@@ -162,7 +160,7 @@ onward_there none t l (settled v u m) e = tt
 onward_there (says v) t l w e = tt
 onward_there (both v u) t l w e = tt
 
-taken_there : (a : Asking) (w : What) (o : Out) (k : Watch) → one_restart w ≡ 0 → NotRestarted k → NotRestarted (watch_taken a w o k)
+taken_there : (a : Option ℕ) (w : What) (o : Out) (k : Watch) → one_restart w ≡ 0 → NotRestarted k → NotRestarted (watch_taken a w o k)
 taken_there a (byte b) o k e i = onward_there (verdict_of a o) 0 o.line k i
 taken_there a (bytes bs) o k e i = onward_there (verdict_of a o) 0 o.line k i
 taken_there a tick o k e i = onward_there (verdict_of a o) 1 o.line k i
@@ -170,14 +168,14 @@ taken_there a (send kind command ps) o k e i = onward_there (verdict_of a o) 0 o
 taken_there a (session command ps) o k e i = onward_there (verdict_of a o) 0 o.line k i
 taken_there a restart o k e i = absurd (omega arith)
 
-done_there : (a : Asking) (w : What) (l : Link) (d : Done) (k : Link → Watch) (n : Link → ℕ) → ((z : Link) → n z ≡ 0 → NotRestarted (k z))
+done_there : (a : Option ℕ) (w : What) (l : Link) (d : Done) (k : Link → Watch) (n : Link → ℕ) → ((z : Link) → n z ≡ 0 → NotRestarted (k z))
     → accepted (one_restart w) d + n (next l d) ≡ 0 → NotRestarted (watch_done a w l d k)
 done_there a w l (refused r) k n i e = i l (omega arith)
 done_there a w l (took o) k n i e = taken_there a w o (k o.link) (omega arith) (i o.link (omega arith))
 
-watch_there : (R : Rules) (a : Asking) (h : List Call) (l : Link) → restarts_in R l h ≡ 0 → NotRestarted (watch R a l h)
+watch_there : (R : Rules) (a : Option ℕ) (h : List Call) (l : Link) → restarts_in R l h ≡ 0 → NotRestarted (watch R a l h)
 watch_there R a [] l e = tt
 watch_there R a (c ∷ h) l e = done_there a c.what l (perform R l c) (λ z. watch R a z h) (λ z. restarts_in R z h) (watch_there R a h) e
 
-pub watched_there : (R : Rules) (a : Asking) (o : Out) (h : List Call) → restarts_in R o.link h ≡ 0 → NotRestarted (watched R a o h)
+pub watched_there : (R : Rules) (a : Option ℕ) (o : Out) (h : List Call) → restarts_in R o.link h ≡ 0 → NotRestarted (watched R a o h)
 watched_there R a o h e = onward_there (verdict_of a o) 0 o.line (watch R a o.link h) (watch_there R a h o.link e)

@@ -1,13 +1,11 @@
 -- The bound of demand 3, for any rules of sending: how long a send or session can last.
 -- Assumes nothing.
-use Rattle.std.specs.Prelude.{ℕ, zero, suc, ◌+◌, ◌-◌, ◌≤◌, ◌<◌}
+use Rattle.std.specs.Prelude.{ℕ, zero, suc, ◌+◌, ◌-◌, ◌≤◌, ◌<◌, None, Option, Some}
 use Rattle.rules.specs.Rules.{Rules, back_offs}
 use Rattle.rules.specs.declared.Mode.{Mode}
 use Rattle.rules.specs.declared.Mode.TheVariants.{Sooner, Spaced}
 use Rattle.rules.specs.declared.Cause.{Cause}
 use Rattle.rules.specs.declared.Cause.TheVariants.{Told, Time}
-use Rattle.job.specs.declared.job.Asking.{Asking}
-use Rattle.job.specs.declared.job.Asking.TheVariants.{Plain, Asks}
 
 -- What the bound needs of the rules: g n bounds the back-off after copy n is lost; a told back-off may be one longer, since 15 or 18 comes a tick before the loss at the latest.
 pub record Fits (R : Rules) (g : ℕ → ℕ) : Type 0 where
@@ -30,12 +28,12 @@ tail W g (suc (suc (suc zero))) = g 3 + 1500 + W
 tail W g (suc (suc (suc (suc n)))) = 0
 
 -- a session's ACK comes a tick before the loss at the latest; then it waits 5,000
-abbrev pub extra : Asking → ℕ
-extra Plain = 0
-extra (Asks c) = 4999
+abbrev pub extra : Option ℕ → ℕ
+extra None = 0
+extra (Some c) = 4999
 
 -- a frame's time, a wait, and what comes after copy 1 is lost
-abbrev pub bound : Rules → (ℕ → ℕ) → Asking → ℕ → ℕ
+abbrev pub bound : Rules → (ℕ → ℕ) → Option ℕ → ℕ → ℕ
 bound R g a size = 1501 + (R.wait size + tail (R.wait size) g 1 + extra a)
 
 -- back-offs of which the one by 15 or 18 is one longer than the one by time

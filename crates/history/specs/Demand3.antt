@@ -1,14 +1,12 @@
 -- Demand 3, of one accepted send or session: f is the frame that `build` gives, bound the number of ticks.
 -- Assumes nothing.
-use Rattle.std.specs.Prelude.{ℕ, ◌+◌, ◌*◌, ◌≤◌, ◌<◌, true, ◌≡◌, List, length, replicate}
+use Rattle.std.specs.Prelude.{ℕ, ◌+◌, ◌*◌, ◌≤◌, ◌<◌, true, ◌≡◌, List, length, replicate, None, Option, Some}
 use Rattle.frame.specs.Frame.{frame_of, REQ}
 use Rattle.rules.specs.Rules.{Rules, wire_time, rules_of}
 use Rattle.rules.specs.declared.Role.TheVariants.{Host, Module}
 use Rattle.rules.specs.declared.Mode.{Mode}
 use Rattle.rules.specs.declared.Mode.TheVariants.{Sooner, Spaced}
 use Rattle.link.specs.Out.{Out}
-use Rattle.job.specs.declared.job.Asking.{Asking}
-use Rattle.job.specs.declared.job.Asking.TheVariants.{Plain, Asks}
 use Rattle.history.specs.Perform.{send, session, Call, took, perform}
 use Rattle.history.specs.History.{after, ticks_in, restarts_in}
 use Rattle.history.specs.Cut.{frames, singles, IsAnswer}
@@ -25,7 +23,7 @@ pub record Open (f : List ℕ) (bound ticks : ℕ) (line : List ℕ) : Type 0 wh
   pub few : length (frames line) ≤ 4
 
 -- with the verdict v, after so many accepted ticks and these bytes, the call of the verdict included
-pub record Ended (a : Asking) (f : List ℕ) (bound : ℕ) (v : Verdict) (ticks : ℕ) (line : List ℕ) : Type 0 where
+pub record Ended (a : Option ℕ) (f : List ℕ) (bound : ℕ) (v : Verdict) (ticks : ℕ) (line : List ℕ) : Type 0 where
   -- the verdict comes by this accepted tick
   pub soon : ticks ≤ bound
   -- and is one of its own
@@ -38,7 +36,7 @@ pub record Ended (a : Asking) (f : List ℕ) (bound : ℕ) (v : Verdict) (ticks 
   pub four : is_failure v ≡ true → copies_in v ≡ 4
 
 -- of a watch; nothing is said where an accepted restart came before the verdict
-abbrev pub Kept : Asking → List ℕ → ℕ → Watch → Type 0
+abbrev pub Kept : Option ℕ → List ℕ → ℕ → Watch → Type 0
 Kept a f bound (going t l) = Open f bound t l
 Kept a f bound restarted_first = Unit {0}
 Kept a f bound (settled v t l) = Ended a f bound v t l
@@ -61,7 +59,7 @@ NotRestarted restarted_first = ⊥
 NotRestarted (settled v t l) = Unit {0}
 
 -- all of demand 3: the accepting call gave o, and the calls h come after it
-pub record Demand3 (R : Rules) (a : Asking) (f : List ℕ) (bound : ℕ) (o : Out) (h : List Call) : Type 0 where
+pub record Demand3 (R : Rules) (a : Option ℕ) (f : List ℕ) (bound : ℕ) (o : Out) (h : List Call) : Type 0 where
   -- at most one verdict until another send or session is accepted
   pub once : verdicts_from R a o h ≤ 1
   -- exactly one where the watch ends with it, else none; abandoned is said once where a restart came before the verdict, else never
@@ -85,14 +83,14 @@ abbrev pub EverySend : Rules → (ℕ → ℕ) → Type 0
 EverySend R bound =
     (h k : List Call) (line up kind command : ℕ) (ps : List ℕ) (o : Out)
     → perform R (after R h) (record { what = send kind command ps; line = line; up = up }) ≡ took o
-    → Demand3 R Plain (frame_of kind command ps) (bound (length (frame_of kind command ps))) o k
+    → Demand3 R None (frame_of kind command ps) (bound (length (frame_of kind command ps))) o k
 
 -- and of every session
 abbrev pub EverySession : Rules → (ℕ → ℕ) → Type 0
 EverySession R bound =
     (h k : List Call) (line up command : ℕ) (ps : List ℕ) (o : Out)
     → perform R (after R h) (record { what = session command ps; line = line; up = up }) ≡ took o
-    → Demand3 R (Asks command) (frame_of REQ command ps) (bound (length (frame_of REQ command ps))) o k
+    → Demand3 R (Some command) (frame_of REQ command ps) (bound (length (frame_of REQ command ps))) o k
 
 -- The verdict comes by accepted tick 15,701 after acceptance, and four times the frame's time on the wire later; in the new mode by tick 15,698 and as
 -- much later, because a NAK can come one tick before the timeout.
@@ -116,7 +114,7 @@ StandInDemand3 m =
 
 -- Demand 3 in one sentence, of a send or session that was accepted and had so many ticks, with no restart: it has its verdict, one of its own
 -- and no second; the frames put out until another is accepted are the copies that the verdict says, at most four, and after a failure exactly four.
-pub record HasVerdict (R : Rules) (a : Asking) (f : List ℕ) (bound : ℕ) (o : Out) (h : List Call) : Type 0 where
+pub record HasVerdict (R : Rules) (a : Option ℕ) (f : List ℕ) (bound : ℕ) (o : Out) (h : List Call) : Type 0 where
   pub verdict : Verdict
   pub ticks : ℕ
   pub line : List ℕ

@@ -1,14 +1,11 @@
 -- A call on a link, with the sizes of the two buffers lent to it, and what it does: the link's own definitions, put together.
 -- Assumes nothing.
-use Rattle.std.specs.Prelude.{ℕ, List, length}
+use Rattle.std.specs.Prelude.{ℕ, List, length, Err, None, Ok, Some}
 use Rattle.frame.specs.Frame.{frame_of, REQ, MAX_BODY, LINE_ROOM}
 use Rattle.refusals.specs.declared.Refusal.{Refusal}
 use Rattle.rules.specs.Rules.{Rules}
 use Rattle.link.specs.Out.{Out, byte_out, tick_out, open_out, restart_out, run_out}
-use Rattle.step.specs.Checks.{room_checks, send_own, session_own}
-use Rattle.step.specs.declared.checks.Checked.{Checked}
-use Rattle.step.specs.declared.checks.Checked.TheVariants.{Passes, Refuses}
-use Rattle.job.specs.declared.job.Asking.TheVariants.{Plain, Asks}
+use Rattle.step.specs.Checks.{room_checks, send_own, session_own, Checked, passes}
 use Rattle.link.specs.declared.link.Link.{Link}
 
 pub data What : Type 0 where
@@ -31,20 +28,20 @@ lent w = record { what = w; line = LINE_ROOM; up = MAX_BODY }
 
 -- behind ROOM: send goes on with BUSY, KIND, LONG; session with BUSY, LONG; the others have no other refusal
 abbrev pub checks_of : Link → What → Checked
-checks_of l (byte b) = Passes
-checks_of l (bytes bs) = Passes
-checks_of l tick = Passes
+checks_of l (byte b) = passes
+checks_of l (bytes bs) = passes
+checks_of l tick = passes
 checks_of l (send kind command ps) = send_own l.core.job kind (length ps)
 checks_of l (session command ps) = session_own l.core.job (length ps)
-checks_of l restart = Passes
+checks_of l restart = passes
 
 -- what the call gives where it is accepted; a run of bytes gives what its last byte taken gave
 abbrev pub out_of : Rules → Link → What → Out
 out_of R l (byte b) = byte_out R l b
 out_of R l (bytes bs) = (run_out R l bs).out
 out_of R l tick = tick_out R l
-out_of R l (send kind command ps) = open_out l Plain (frame_of kind command ps)
-out_of R l (session command ps) = open_out l (Asks command) (frame_of REQ command ps)
+out_of R l (send kind command ps) = open_out l None (frame_of kind command ps)
+out_of R l (session command ps) = open_out l (Some command) (frame_of REQ command ps)
 out_of R l restart = restart_out l
 
 pub data Done : Type 0 where
@@ -52,8 +49,8 @@ pub data Done : Type 0 where
   took : Out → Done
 
 abbrev pub done_by : Checked → Out → Done
-done_by Passes o = took o
-done_by (Refuses k) o = refused k
+done_by (Ok _) o = took o
+done_by (Err k) o = refused k
 
 -- ROOM first, by the numbers of lent bytes
 abbrev pub perform : Rules → Link → Call → Done

@@ -1,28 +1,23 @@
--- A history as it is played: calls that keep their promises, each on the link that the one before handed back, with whatever is lent to it.
+-- A history as it is played: calls that keep their promises, each on the link as the one before left it, with whatever is lent to it.
 -- Assumes nothing.
-use Rattle.std.specs.Prelude.{ℕ, ◌≡◌, List, [], ◌∷◌, length}
+use Rattle.std.specs.Prelude.{ℕ, ◌≡◌, List, [], ◌∷◌, length, Result, Ok, Err, None, Some}
+use Rattle.refusals.specs.declared.Refusal.{Refusal}
+use Rattle.report.specs.declared.Report.{Report}
 use Rattle.frame.specs.Bytes.{over}
 use Rattle.frame.specs.Frame.{frame_of, REQ}
 use Rattle.rules.specs.Rules.{Rules, rules_of}
-use Rattle.job.specs.declared.job.Asking.TheVariants.{Plain, Asks}
-use Rattle.step.specs.Checks.{send_own, session_own}
-use Rattle.step.specs.declared.checks.Checked.TheVariants.{Passes}
+use Rattle.step.specs.Checks.{send_own, session_own, passes}
 use Rattle.link.specs.Out.{out_report, run_out, byte_out, tick_out, open_out, restart_out}
-use Rattle.link.specs.Calls.{CallPromise, RunPromise}
-use Rattle.link.specs.declared.calls.Answer.{Answer}
-use Rattle.link.specs.declared.calls.Answer.TheVariants as answer
-use Rattle.link.specs.declared.calls.Answered.{Answered}
-use Rattle.link.specs.declared.calls.Ran.{Ran}
-use Rattle.link.specs.declared.calls.RunAnswer.{RunAnswer}
-use Rattle.link.specs.declared.calls.RunAnswer.TheVariants as run
+use Rattle.link.specs.Calls.{Answered, Ran, CallPromise, RunPromise}
+use Rattle.link.specs.declared.calls.Run.{Run}
 use Rattle.link.specs.declared.link.Link.{Link}
 use Rattle.history.specs.Perform.{What, byte, bytes, tick, send, session, restart, Call, Done, refused, took, perform}
 use Rattle.history.specs.History.{next}
 
 -- what a call answered; a run of bytes has its own answer
 pub data Told : Type 0 where
-  by_call : Answer → Told
-  by_run : RunAnswer → Told
+  by_call : Result Report Refusal → Told
+  by_run : Result Run Refusal → Told
 
 -- a call: the bytes lent to it, what it answered, and what it left of them
 pub record Played : Type 0 where
@@ -36,21 +31,21 @@ pub record Played : Type 0 where
 abbrev pub played : What → List ℕ → List ℕ → Told → List ℕ → List ℕ → Played
 played w line up told line' up' = record { what = w; line = line; up = up; told = told; line' = line'; up' = up' }
 
--- the promise of each call, in the words of its contract: on the link l it is played so, and hands back this link
+-- the promise of each call, in the words of its contract: on the link l it is played so, and leaves this link
 pub data Promised (R : Rules) (l : Link) : Played → Link → Type 0 where
-  byte_call : (b : ℕ) (line up : List ℕ) (r : Answered) (line' up' : List ℕ) → CallPromise Passes (byte_out R l b) l line up r line' up'
+  byte_call : (b : ℕ) (line up : List ℕ) (r : Answered) (line' up' : List ℕ) → CallPromise passes (byte_out R l b) l line up r line' up'
       → Promised R l (played (byte b) line up (by_call r.answer) line' up') r.link
   bytes_call : (bs line up : List ℕ) (r : Ran) (line' up' : List ℕ) → RunPromise (run_out R l bs) l line up r line' up'
       → Promised R l (played (bytes bs) line up (by_run r.answer) line' up') r.link
-  tick_call : (line up : List ℕ) (r : Answered) (line' up' : List ℕ) → CallPromise Passes (tick_out R l) l line up r line' up'
+  tick_call : (line up : List ℕ) (r : Answered) (line' up' : List ℕ) → CallPromise passes (tick_out R l) l line up r line' up'
       → Promised R l (played tick line up (by_call r.answer) line' up') r.link
   send_call : (kind command : ℕ) (ps line up : List ℕ) (r : Answered) (line' up' : List ℕ)
-      → CallPromise (send_own l.core.job kind (length ps)) (open_out l Plain (frame_of kind command ps)) l line up r line' up'
+      → CallPromise (send_own l.core.job kind (length ps)) (open_out l None (frame_of kind command ps)) l line up r line' up'
       → Promised R l (played (send kind command ps) line up (by_call r.answer) line' up') r.link
   session_call : (command : ℕ) (ps line up : List ℕ) (r : Answered) (line' up' : List ℕ)
-      → CallPromise (session_own l.core.job (length ps)) (open_out l (Asks command) (frame_of REQ command ps)) l line up r line' up'
+      → CallPromise (session_own l.core.job (length ps)) (open_out l (Some command) (frame_of REQ command ps)) l line up r line' up'
       → Promised R l (played (session command ps) line up (by_call r.answer) line' up') r.link
-  restart_call : (line up : List ℕ) (r : Answered) (line' up' : List ℕ) → CallPromise Passes (restart_out l) l line up r line' up'
+  restart_call : (line up : List ℕ) (r : Answered) (line' up' : List ℕ) → CallPromise passes (restart_out l) l line up r line' up'
       → Promised R l (played restart line up (by_call r.answer) line' up') r.link
 
 -- calls one after the other, from a link to a link, each by the rules of what its own link was opened as
@@ -67,13 +62,13 @@ calls_of [] = []
 calls_of (p ∷ ps) = call_of p ∷ calls_of ps
 
 -- what is done, as an answer and as bytes written
-abbrev pub answer_of : Done → Answer
-answer_of (refused k) = answer.Refused k
-answer_of (took o) = answer.Done (out_report o)
+abbrev pub answer_of : Done → Result Report Refusal
+answer_of (refused k) = Err k
+answer_of (took o) = Ok (out_report o)
 
-abbrev pub run_answer_of : ℕ → Done → RunAnswer
-run_answer_of n (refused k) = run.Refused k
-run_answer_of n (took o) = run.Done (out_report o) n
+abbrev pub run_answer_of : ℕ → Done → Result Run Refusal
+run_answer_of n (refused k) = Err k
+run_answer_of n (took o) = Ok (record { report = out_report o; taken = n })
 
 abbrev pub told_of : Rules → Link → What → Done → Told
 told_of R l (byte b) d = by_call (answer_of d)
@@ -97,7 +92,7 @@ pub record Tied (R : Rules) (l : Link) (p : Played) : Type 0 where
   pub line_left : p.line' ≡ over (line_of (perform R l (call_of p))) p.line
   pub up_left : p.up' ≡ over (up_of (perform R l (call_of p))) p.up
 
--- the link handed back is the history's next, and the call is tied to it
+-- the link that is left is the history's next, and the call is tied to it
 pub record Performs (R : Rules) (l : Link) (p : Played) (m : Link) : Type 0 where
   pub link : m ≡ next l (perform R l (call_of p))
   pub tied : Tied R l p

@@ -1,31 +1,23 @@
--- A history played in place: the caller keeps the link's parts and lends each call those that the one before left, with whatever
--- else is lent to it.
+-- A history of calls on a link that is seen as its parts, the numbers and the two arrays: each call on those that the one before left,
+-- with whatever is lent to it.
 -- Assumes nothing.
-use Rattle.std.specs.Prelude.{ℕ, ◌≡◌, List, [], ◌∷◌, length}
+use Rattle.std.specs.Prelude.{ℕ, ◌≡◌, List, [], ◌∷◌, length, None, Some}
 use Rattle.frame.specs.Frame.{frame_of, REQ}
 use Rattle.rules.specs.Rules.{Rules, rules_of}
 use Rattle.rules.specs.declared.Choice.{Choice}
-use Rattle.job.specs.declared.job.Asking.TheVariants.{Plain, Asks}
 use Rattle.step.specs.Core.{fresh_core}
-use Rattle.step.specs.Checks.{send_own, session_own}
-use Rattle.step.specs.declared.checks.Checked.TheVariants.{Passes}
+use Rattle.step.specs.Checks.{send_own, session_own, passes}
 use Rattle.step.specs.declared.numbers.Core.{Core}
 use Rattle.link.specs.Link.{no_body, no_frame}
 use Rattle.link.specs.Out.{run_out, byte_out, tick_out, open_out, restart_out}
 use Rattle.link.specs.Calls.{CallPromise, RunPromise}
-use Rattle.link.specs.InPlace.{link_of, put_together, ran_put_together}
-use Rattle.link.specs.declared.in_place.AnsweredIn.{AnsweredIn}
-use Rattle.link.specs.declared.in_place.RanIn.{RanIn}
+use Rattle.link.specs.InPlace.{AnsweredIn, RanIn, link_of, put_together, ran_put_together}
 use Rattle.link.specs.declared.link.Link.{Link}
+use Rattle.link.specs.declared.link.Parts.{Parts}
 use Rattle.history.specs.Perform.{byte, bytes, tick, send, session, restart}
 use Rattle.history.specs.Played.{by_call, by_run, Played, played}
 
--- the parts that the caller keeps
-pub record Parts : Type 0 where
-  pub core : Core
-  pub body : List ℕ
-  pub frame : List ℕ
-
+-- the parts of a link, as `link` has them
 abbrev pub parts : Core → List ℕ → List ℕ → Parts
 parts core body frame = record { core = core; body = body; frame = frame }
 
@@ -33,35 +25,32 @@ parts core body frame = record { core = core; body = body; frame = frame }
 abbrev pub fresh_parts : Choice → Parts
 fresh_parts c = parts (fresh_core c) no_body no_frame
 
--- the link that they are
+-- The link that they are: `Link::from(parts)`. So a caller that keeps the parts itself calls, and takes them back by `Parts::from(link)`.
 abbrev pub whole_of : Parts → Link
 whole_of k = link_of k.core k.body k.frame
 
--- the promise of each call in place, in the words of its contract: with these parts lent it is played so, and leaves those
+-- The promise of each call, made on the link of these parts: it is played so, and leaves those.
 pub data PromisedIn (R : Rules) (core : Core) (body frame : List ℕ) : Played → Parts → Type 0 where
   byte_in : (b : ℕ) (line up : List ℕ) (r : AnsweredIn) (body' line' up' : List ℕ)
-      → CallPromise Passes (byte_out R (link_of core body frame) b) (link_of core body frame) line up (put_together r body' frame) line' up'
+      → CallPromise passes (byte_out R (link_of core body frame) b) (link_of core body frame) line up (put_together r body' frame) line' up'
       → PromisedIn R core body frame (played (byte b) line up (by_call r.answer) line' up') (parts r.core body' frame)
   bytes_in : (bs line up : List ℕ) (r : RanIn) (body' line' up' : List ℕ)
       → RunPromise (run_out R (link_of core body frame) bs) (link_of core body frame) line up (ran_put_together r body' frame) line' up'
       → PromisedIn R core body frame (played (bytes bs) line up (by_run r.answer) line' up') (parts r.core body' frame)
   tick_in : (line up : List ℕ) (r : AnsweredIn) (line' up' : List ℕ)
-      → ((kept : List ℕ)
-      → CallPromise Passes (tick_out R (link_of core kept frame)) (link_of core kept frame) line up (put_together r kept frame) line' up')
+      → CallPromise passes (tick_out R (link_of core body frame)) (link_of core body frame) line up (put_together r body frame) line' up'
       → PromisedIn R core body frame (played tick line up (by_call r.answer) line' up') (parts r.core body frame)
   send_in : (kind command : ℕ) (ps line up : List ℕ) (r : AnsweredIn) (frame' line' up' : List ℕ)
-      → ((kept : List ℕ)
-      → CallPromise (send_own core.job kind (length ps)) (open_out (link_of core kept frame) Plain (frame_of kind command ps)) (link_of core kept frame) line up (put_together r kept frame') line' up')
+      → CallPromise (send_own core.job kind (length ps)) (open_out (link_of core body frame) None (frame_of kind command ps)) (link_of core body frame) line up (put_together r body frame') line' up'
       → PromisedIn R core body frame (played (send kind command ps) line up (by_call r.answer) line' up') (parts r.core body frame')
   session_in : (command : ℕ) (ps line up : List ℕ) (r : AnsweredIn) (frame' line' up' : List ℕ)
-      → ((kept : List ℕ)
-      → CallPromise (session_own core.job (length ps)) (open_out (link_of core kept frame) (Asks command) (frame_of REQ command ps)) (link_of core kept frame) line up (put_together r kept frame') line' up')
+      → CallPromise (session_own core.job (length ps)) (open_out (link_of core body frame) (Some command) (frame_of REQ command ps)) (link_of core body frame) line up (put_together r body frame') line' up'
       → PromisedIn R core body frame (played (session command ps) line up (by_call r.answer) line' up') (parts r.core body frame')
   restart_in : (line up : List ℕ) (r : AnsweredIn) (body' frame' line' up' : List ℕ)
-      → CallPromise Passes (restart_out (link_of core body frame)) (link_of core body frame) line up (put_together r body' frame') line' up'
+      → CallPromise passes (restart_out (link_of core body frame)) (link_of core body frame) line up (put_together r body' frame') line' up'
       → PromisedIn R core body frame (played restart line up (by_call r.answer) line' up') (parts r.core body' frame')
 
--- calls in place one after the other, from parts to parts, each by the rules of what was chosen
+-- calls one after the other, from parts to parts, each by the rules of what was chosen
 pub data PlaysIn : Parts → List Played → Parts → Type 0 where
   no_calls_in : (k : Parts) → PlaysIn k [] k
   then_in : (k m n : Parts) (p : Played) (ps : List Played) → PromisedIn (rules_of k.core.choice) k.core k.body k.frame p m → PlaysIn m ps n

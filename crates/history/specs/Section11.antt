@@ -1,13 +1,12 @@
 -- Section 11's errors to shut out, and section 4's answers: what a byte or a tick does inside a frame, on any link whatever.
 -- Assumes nothing.
-use Rattle.std.specs.Prelude.{ℕ, ◌+◌, ◌≤◌, ◌<◌, ◌≡◌, Bool, false, List, [], ◌∷◌, ◌++◌, take}
+use Rattle.std.specs.Prelude.{ℕ, ◌+◌, ◌≤◌, ◌<◌, ◌≡◌, Bool, false, List, [], ◌∷◌, ◌++◌, take, Option}
 use Rattle.frame.specs.Frame.{ACK, NAK, CAN}
 use Rattle.hearing.specs.declared.hearing.Hearing.{Hearing}
 use Rattle.hearing.specs.declared.hearing.Hearing.TheVariants.{Hunting, Head, Body}
 use Rattle.hearing.specs.declared.hearing.End.{End}
 use Rattle.hearing.specs.declared.hearing.End.TheVariants as end
 use Rattle.job.specs.Job.{next_copy}
-use Rattle.job.specs.declared.job.Asking.{Asking}
 use Rattle.job.specs.declared.job.Job.{Job}
 use Rattle.job.specs.declared.job.Job.TheVariants.{Due, Waiting}
 use Rattle.refusals.specs.Pick.{pick}
@@ -59,7 +58,7 @@ pub record EndsAs (R : Rules) (l : Link) (o : Out) (e : End) : Type 0 where
   pub sending : NothingOrCopy o.sending
   pub reception : o.reception ≡ (said_end R.choice.role e (awaited_by l.core.job)).reception
   -- a send that waits for its ACK waits on, whatever the byte is: a Checksum of 06, too
-  pub waits : (a : Asking) (n t : ℕ) → l.core.job ≡ Waiting a n t → o.link.core.job ≡ Waiting a n t
+  pub waits : (a : Option ℕ) (n t : ℕ) → l.core.job ≡ Waiting a n t → o.link.core.job ≡ Waiting a n t
 
 -- "Taking 06 inside a body as the awaited ACK." Inside a frame no byte is taken by the sender.
 pub data InFrame (R : Rules) (l : Link) (o : Out) : Type 0 where
@@ -73,7 +72,7 @@ pub data Ticked (l : Link) (o : Out) : Type 0 where
   aborts : o.link.core.hearing ≡ Hunting → o.reception ≡ reception.Abort → 1500 ≤ clock_of l.core.hearing → Ticked l o
 
 -- ---- "Dropping a copy that came due inside a frame." The call that ends the reception, whichever end it is, puts it out behind the 06 or 15, if there is one.
-pub record GoesOut (a : Asking) (n : ℕ) (answer : List ℕ) (l : Link) (o : Out) : Type 0 where
+pub record GoesOut (a : Option ℕ) (n : ℕ) (answer : List ℕ) (l : Link) (o : Out) : Type 0 where
   pub line : o.line ≡ answer ++ take l.core.size l.frame
   pub sending : o.sending ≡ sending.Copy (next_copy n)
   pub job : o.link.core.job ≡ Waiting a (next_copy n) 0
@@ -92,12 +91,12 @@ end_answer x (end.Request size) = pick x (CAN ∷ []) (ACK ∷ [])
 end_answer x (end.Response size command) = pick x (CAN ∷ []) (ACK ∷ [])
 
 -- a byte inside a frame, with a copy due: nothing is cancelled
-pub data DueByte (R : Rules) (a : Asking) (n : ℕ) (l : Link) (o : Out) : Type 0 where
+pub data DueByte (R : Rules) (a : Option ℕ) (n : ℕ) (l : Link) (o : Out) : Type 0 where
   stays : GoesOn l o → DueByte R a n l o
   leaves : (e : End) → EndsAs R l o e → GoesOut a n (end_answer false e) l o → DueByte R a n l o
 
 -- and a tick: the copy stays due inside the frame, or goes out by the abort
-pub data DueTick (a : Asking) (n : ℕ) (l : Link) (o : Out) : Type 0 where
+pub data DueTick (a : Option ℕ) (n : ℕ) (l : Link) (o : Out) : Type 0 where
   still_due : IsInside o.link.core.hearing → o.link.core.job ≡ Due a n → DueTick a n l o
   out_by_abort : o.reception ≡ reception.Abort → GoesOut a n [] l o → DueTick a n l o
 

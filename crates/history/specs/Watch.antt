@@ -1,11 +1,9 @@
 -- A send or session watched from its acceptance to its verdict.
 -- Assumes nothing.
-use Rattle.std.specs.Prelude.{ℕ, ◌+◌, Bool, true, false, List, [], ◌∷◌, ◌++◌}
+use Rattle.std.specs.Prelude.{ℕ, ◌+◌, Bool, true, false, List, [], ◌∷◌, ◌++◌, None, Option, Some}
 use Rattle.refusals.specs.Pick.{pick}
 use Rattle.rules.specs.Rules.{Rules}
 use Rattle.link.specs.Out.{Out}
-use Rattle.job.specs.declared.job.Asking.{Asking}
-use Rattle.job.specs.declared.job.Asking.TheVariants.{Plain, Asks}
 use Rattle.report.specs.declared.Sending.{Sending}
 use Rattle.report.specs.declared.Sending.TheVariants as sending
 use Rattle.report.specs.declared.Session.{Session}
@@ -43,17 +41,17 @@ is_ack (no_response n) = false
 is_ack (unsent n) = false
 
 -- a send's verdict is acknowledged or failed, a session's response, no response or not sent
-abbrev pub is_own : Asking → Verdict → Bool
-is_own Plain (acknowledged n) = true
-is_own Plain (failed n) = true
-is_own Plain (response n) = false
-is_own Plain (no_response n) = false
-is_own Plain (unsent n) = false
-is_own (Asks c) (acknowledged n) = false
-is_own (Asks c) (failed n) = false
-is_own (Asks c) (response n) = true
-is_own (Asks c) (no_response n) = true
-is_own (Asks c) (unsent n) = true
+abbrev pub is_own : Option ℕ → Verdict → Bool
+is_own None (acknowledged n) = true
+is_own None (failed n) = true
+is_own None (response n) = false
+is_own None (no_response n) = false
+is_own None (unsent n) = false
+is_own (Some c) (acknowledged n) = false
+is_own (Some c) (failed n) = false
+is_own (Some c) (response n) = true
+is_own (Some c) (no_response n) = true
+is_own (Some c) (unsent n) = true
 
 -- what a report says of the open send or session: no verdict, this one, or two at once
 pub data Says : Type 0 where
@@ -104,12 +102,12 @@ beside (session.NoResponse n) x = x
 beside (session.NotSent n) x = without is_failure x
 beside session.Abandoned x = x
 
--- of an accepted send (Plain) or session (Asks): a verdict is looked for in both parts, whichever it was
-abbrev pub verdict_in : Asking → Sending → Session → Says
-verdict_in Plain s e = together (send_verdict s) (session_verdict e)
-verdict_in (Asks c) s e = together (session_verdict e) (beside e (send_verdict s))
+-- of an accepted send (None) or session (Some, with its command): a verdict is looked for in both parts, whichever it was
+abbrev pub verdict_in : Option ℕ → Sending → Session → Says
+verdict_in None s e = together (send_verdict s) (session_verdict e)
+verdict_in (Some c) s e = together (session_verdict e) (beside e (send_verdict s))
 
-abbrev pub verdict_of : Asking → Out → Says
+abbrev pub verdict_of : Option ℕ → Out → Says
 verdict_of a o = verdict_in a o.sending o.session
 
 -- no verdict yet; restarted before the verdict; or the verdict: with the accepted ticks and the bytes put out so far
@@ -131,7 +129,7 @@ onward (says v) t l w = settled v t l
 onward (both v u) t l w = settled v t l
 
 -- an accepted call; w is the watch from the link that it gives
-abbrev pub watch_taken : Asking → What → Out → Watch → Watch
+abbrev pub watch_taken : Option ℕ → What → Out → Watch → Watch
 watch_taken a (byte b) o w = onward (verdict_of a o) 0 o.line w
 watch_taken a (bytes bs) o w = onward (verdict_of a o) 0 o.line w
 watch_taken a tick o w = onward (verdict_of a o) 1 o.line w
@@ -140,16 +138,16 @@ watch_taken a (session_call command ps) o w = onward (verdict_of a o) 0 o.line w
 watch_taken a restart o w = restarted_first
 
 -- a refused call is passed over; k is the watch from a link
-abbrev pub watch_done : Asking → What → Link → Done → (Link → Watch) → Watch
+abbrev pub watch_done : Option ℕ → What → Link → Done → (Link → Watch) → Watch
 watch_done a x l (refused r) k = k l
 watch_done a x l (took o) k = watch_taken a x o (k o.link)
 
-abbrev pub watch : Rules → Asking → Link → List Call → Watch
+abbrev pub watch : Rules → Option ℕ → Link → List Call → Watch
 watch R a l [] = going 0 []
 watch R a l (c ∷ h) = watch_done a c.what l (perform R l c) (λ z. watch R a z h)
 
 -- from the accepting call, which gave o, over the calls h after it
-abbrev pub watched : Rules → Asking → Out → List Call → Watch
+abbrev pub watched : Rules → Option ℕ → Out → List Call → Watch
 watched R a o h = onward (verdict_of a o) 0 o.line (watch R a o.link h)
 
 -- ---- all calls until another send or session is accepted: past the verdict too, and past a restart
@@ -180,11 +178,11 @@ verdict_count none = 0
 verdict_count (says v) = 1
 verdict_count (both v w) = 2
 
-abbrev pub verdicts_of : Asking → List Out → ℕ
+abbrev pub verdicts_of : Option ℕ → List Out → ℕ
 verdicts_of a [] = 0
 verdicts_of a (o ∷ os) = verdict_count (verdict_of a o) + verdicts_of a os
 
-abbrev pub verdicts_from : Rules → Asking → Out → List Call → ℕ
+abbrev pub verdicts_from : Rules → Option ℕ → Out → List Call → ℕ
 verdicts_from R a o h = verdicts_of a (outs_from R o h)
 
 -- how often abandoned is said, in the sending part or in the session part

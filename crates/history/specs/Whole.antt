@@ -1,11 +1,11 @@
 -- A frame that comes whole, in whatever calls: how its reception ends, by what the frame reader says of the same bytes.
 -- Assumes nothing.
-use Rattle.std.specs.Prelude.{ℕ, ◌≤◌, ◌<◌, ◌≡◌, Bool, true, false, List, [], ◌∷◌, ◌++◌, eqb, length, take}
+use Rattle.std.specs.Prelude.{ℕ, ◌≤◌, ◌<◌, ◌≡◌, Bool, true, false, List, [], ◌∷◌, ◌++◌, eqb, length, take, Result, Ok, Err}
 use Rattle.refusals.specs.Pick.{pick}
+use Rattle.refusals.specs.declared.Refusal.{Refusal}
 use Rattle.refusals.specs.declared.Refusal.TheVariants as refusal
 use Rattle.reading.specs.Reader.{parameters_of, read}
-use Rattle.reading.specs.declared.reader.Reading.{Reading}
-use Rattle.reading.specs.declared.reader.Reading.TheVariants.{Refused, Parts}
+use Rattle.reading.specs.declared.reader.Parts.{Parts}
 use Rattle.rules.specs.Rules.{Rules}
 use Rattle.sending.specs.Events.{awaits}
 use Rattle.link.specs.Out.{Out, Taken}
@@ -80,22 +80,22 @@ FrameEnds true j held kind command ps o = Ending j held reception.Cancelled (CAN
 
 -- The reader's answer to the bytes xs decides. LENGTH: "report bad length, hunt again. No byte is put out." SUM: "put out 15, report bad sum."
 -- KIND: "put out 06, hand up nothing, report reserved." Parts: it is handed up, or cancelled. It has no other answer to bytes that come whole.
-abbrev pub EndsBy : Bool → Job → List ℕ → List ℕ → Reading → Out → Type 0
-EndsBy x j held xs (Refused refusal.Room) o = ⊥
-EndsBy x j held xs (Refused refusal.Busy) o = ⊥
-EndsBy x j held xs (Refused refusal.Kind) o = Ending j held reception.Reserved (ACK ∷ []) [] o
-EndsBy x j held xs (Refused refusal.Long) o = ⊥
-EndsBy x j held xs (Refused refusal.Short) o = ⊥
-EndsBy x j held xs (Refused refusal.Start) o = ⊥
-EndsBy x j held xs (Refused refusal.Length) o = Ending j held reception.BadLength [] [] o
-EndsBy x j held xs (Refused refusal.Tail) o = ⊥
-EndsBy x j held xs (Refused refusal.Sum) o = Ending j held reception.BadSum (NAK ∷ []) [] o
-EndsBy x j held xs (Refused refusal.Form) o = ⊥
-EndsBy x j held xs (Refused refusal.Range) o = ⊥
-EndsBy x j held xs (Parts kind command n) o = FrameEnds x j held kind command (parameters_of xs n) o
+abbrev pub EndsBy : Bool → Job → List ℕ → List ℕ → Result Parts Refusal → Out → Type 0
+EndsBy x j held xs (Err refusal.Room) o = ⊥
+EndsBy x j held xs (Err refusal.Busy) o = ⊥
+EndsBy x j held xs (Err refusal.Kind) o = Ending j held reception.Reserved (ACK ∷ []) [] o
+EndsBy x j held xs (Err refusal.Long) o = ⊥
+EndsBy x j held xs (Err refusal.Short) o = ⊥
+EndsBy x j held xs (Err refusal.Start) o = ⊥
+EndsBy x j held xs (Err refusal.Length) o = Ending j held reception.BadLength [] [] o
+EndsBy x j held xs (Err refusal.Tail) o = ⊥
+EndsBy x j held xs (Err refusal.Sum) o = Ending j held reception.BadSum (NAK ∷ []) [] o
+EndsBy x j held xs (Err refusal.Form) o = ⊥
+EndsBy x j held xs (Err refusal.Range) o = ⊥
+EndsBy x j held xs (Ok r) o = FrameEnds x j held r.kind r.command (parameters_of xs r.count) o
 
 -- of a call on the link l that takes the last of the bytes xs and gives o
-abbrev pub AsRead : Rules → Link → List ℕ → Reading → Out → Type 0
+abbrev pub AsRead : Rules → Link → List ℕ → Result Parts Refusal → Out → Type 0
 AsRead R l xs r o = EndsBy (cancels_now R l.core.job) l.core.job (take l.core.size l.frame) xs r o
 
 -- a run that gives this took n bytes, and its last ended the frame as read

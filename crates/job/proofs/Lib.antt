@@ -1,4 +1,3 @@
-mod Else
 mod Entries
 pub mod Theorems
 mod Times

@@ -5,12 +5,12 @@
 --     is_open_determined                         whether a send or session is open
 --     on_tick_determined, on_abort_determined    a tick, and one that aborts a frame
 -- Assumes nothing.
+use Rattle.std.specs.Prelude.{Option}
 use mathlib.Core.Path.{◌≡◌}
 use mathlib.Core.Bool.{Bool}
 use Prim.Native.Nat.{ℕ}
 use Rattle.refusals.proofs.Theorems.{fixed}
 use Rattle.report.specs.declared.Sending.{Sending}
-use Rattle.job.specs.declared.job.Asking.{Asking}
 use Rattle.job.specs.declared.job.Job.{Job}
 use Rattle.job.specs.declared.job.Act.{Act}
 use Rattle.rules.specs.Rules.{rules_of}
@@ -22,10 +22,10 @@ use Rattle.job.specs.Ticks.{on_tick, on_abort}
 pub goes_on_determined : (j : Job) (s : Sending) {r q : Act} → r ≡ goes_on j s → q ≡ goes_on j s → r ≡ q
 goes_on_determined j s = fixed
 
-pub start_determined : (hunting : Bool) (a : Asking) (n : ℕ) {r q : Act} → r ≡ start hunting a n → q ≡ start hunting a n → r ≡ q
+pub start_determined : (hunting : Bool) (a : Option ℕ) (n : ℕ) {r q : Act} → r ≡ start hunting a n → q ≡ start hunting a n → r ≡ q
 start_determined hunting a n = fixed
 
-pub lose_determined : (c : Choice) (cause : Cause) (hunting : Bool) (a : Asking) (n : ℕ) {r q : Act}
+pub lose_determined : (c : Choice) (cause : Cause) (hunting : Bool) (a : Option ℕ) (n : ℕ) {r q : Act}
     → r ≡ lose (rules_of c) cause hunting a n → q ≡ lose (rules_of c) cause hunting a n → r ≡ q
 lose_determined c cause hunting a n = fixed
 

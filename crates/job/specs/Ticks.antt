@@ -1,6 +1,6 @@
 -- Sections 5 and 6: what a tick does to the open send or session.
 -- Assumes nothing.
-use Rattle.std.specs.Prelude.{ℕ, ◌+◌, ◌-◌, Bool, true, false, ltb}
+use Rattle.std.specs.Prelude.{ℕ, ◌+◌, ◌-◌, Bool, true, false, ltb, Option}
 use Rattle.refusals.specs.Pick.{pick}
 use Rattle.rules.specs.Rules.{Rules}
 use Rattle.rules.specs.declared.Cause.TheVariants.{Time}
@@ -8,17 +8,16 @@ use Rattle.job.specs.Job.{still, put_out, start, lose}
 use Rattle.report.specs.declared.Sending.TheVariants as sending
 use Rattle.report.specs.declared.Session.TheVariants as session
 use Rattle.report.specs.declared.Reset.TheVariants as reset
-use Rattle.job.specs.declared.job.Asking.{Asking}
 use Rattle.job.specs.declared.job.Job.{Job}
 use Rattle.job.specs.declared.job.Job.TheVariants.{Idle, Due, Waiting, BackingOff, Awaiting}
 use Rattle.job.specs.declared.job.Act.{Act}
 
 -- Each later tick adds 1 to the wait; at the rule's number the copy is lost.
-abbrev pub waited : Rules → ℕ → Bool → Asking → ℕ → ℕ → Act
+abbrev pub waited : Rules → ℕ → Bool → Option ℕ → ℕ → ℕ → Act
 waited R size hunting a n e = pick (ltb e (R.wait size)) (still (Waiting a n e)) (lose R Time hunting a n)
 
 -- The tick that ends a back-off puts the next copy out if hunting, else it becomes due.
-abbrev pub backed : Bool → Asking → ℕ → ℕ → Act
+abbrev pub backed : Bool → Option ℕ → ℕ → ℕ → Act
 backed hunting a n l = pick (ltb 1 l) (still (BackingOff a n (l - 1))) (start hunting a n)
 
 -- The tick that makes 5,000 ends the session with no response.

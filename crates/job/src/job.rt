@@ -8,27 +8,23 @@ use report::{Reset, Sending, Session};
 use rules::{Cause, Choice, Mode};
 use units::Millis;
 
-// Whether the open send is a session, and then which command it asks for.
-#[derive(Clone, Copy)]
-pub enum Asking {
-    Plain,
-    Asks { command: u8 },
-}
-
-#[derive(Clone, Copy)]
+// The open send or session. `asks` is the command that a session asks for, and a plain send asks for none. (It and `copies` stand in each
+// state, since theorems and rows of `history` and `scenes` state a job by its parts: `JobIn`, `DueTick`, `due_rows`, `waiting_rows`. So a struct of the
+// two, for the functions alone, would be made of the parts before each call and taken apart again for the next state: no plainer.)
+#[derive(Clone, Copy, Debug, PartialEq, Eq)]
 pub enum Job {
     Idle,
     Due {
-        asking: Asking,
+        asks: Option<u8>,
         copies: u8,
     },
     Waiting {
-        asking: Asking,
+        asks: Option<u8>,
         copies: u8,
         elapsed: u16,
     },
     BackingOff {
-        asking: Asking,
+        asks: Option<u8>,
         copies: u8,
         left: u16,
     },
@@ -45,7 +41,7 @@ impl Job {
     pub const ACK_WAIT: Millis = Millis(1600);
     // How long a session waits for its response.
     pub const RESPONSE_WAIT: Millis = Millis(5000);
-    // The back-offs after copies 1, 2 and 3.
+    // The back-offs after copies 1, 2 and 3. (Names and no array: `timings` of a link has a field for each, and an edit changes each.)
     pub const BACK_OFF_1: Millis = Millis(100);
 
     pub const BACK_OFF_2: Millis = Millis(1100);
@@ -57,138 +53,140 @@ impl Job {
     pub const SOONER_2: Millis = Millis(0);
 
     pub const SOONER_3: Millis = Millis(500);
+
+    // A send or session is open.
+    #[inline]
+    pub fn is_open(self) -> bool
+        ensures { result ≡ spec.is_open self }
+    {
+        !matches!(self, Job::Idle)
+    }
 }
 
-#[derive(Clone, Copy)]
+#[derive(Clone, Copy, Debug, PartialEq, Eq)]
 pub struct Act {
     pub job: Job,
     pub sending: Sending,
     pub session: Session,
     pub reset: Reset,
-    // Whether the held frame goes out.
+    // Whether the held frame goes out. (It does where `sending` is a copy, and only there, but the promises have it as a part of its own:
+    // `Act`, `decided`, and the edits `copy-not-put-out`, `going-on-puts-a-copy-out`, `copy-not-decided`.)
     pub copy: bool,
 }
 
-// The job goes on: nothing in the session part, no reset, no copy.
-pub fn goes_on(job: Job, sending: Sending) -> Act
-    ensures { result ≡ spec.goes_on job sending }
-{
-    Act {
-        job: job,
-        sending: sending,
-        session: Session::Nothing,
-        reset: Reset::Nothing,
-        copy: false,
+impl Act {
+    // The job goes on: nothing in the session part, no reset, no copy.
+    #[inline]
+    pub fn goes_on(job: Job, sending: Sending) -> Self
+        ensures { result ≡ spec.goes_on job sending }
+    {
+        Act {
+            job,
+            sending,
+            session: Session::Nothing,
+            reset: Reset::Nothing,
+            copy: false,
+        }
     }
 }
 
 // The number of the next copy. The guard is for links that no call makes.
+#[inline]
 fn next_copy(copies: u8) -> u8
     ensures { result ≡ spec.next_copy copies }
 {
-    if copies < 4 {
-        return copies + 1;
-    }
-    4
+    copies.min(3) + 1
 }
 
 // A copy is handed over, and its wait starts at 0.
-pub(crate) fn put_out(asking: Asking, copies: u8) -> Act
-    ensures { result ≡ spec.put_out asking copies }
+#[inline]
+pub(crate) fn put_out(asks: Option<u8>, copies: u8) -> Act
+    ensures { result ≡ spec.put_out asks copies }
 {
     let n = next_copy(copies);
+    let waiting = Job::Waiting {
+        asks,
+        copies: n,
+        elapsed: 0,
+    };
     Act {
-        job: Job::Waiting {
-            asking: asking,
-            copies: n,
-            elapsed: 0,
-        },
-        sending: Sending::Copy(n),
-        session: Session::Nothing,
-        reset: Reset::Nothing,
         copy: true,
+        ..Act::goes_on(waiting, Sending::Copy(n))
     }
 }
 
 // The next copy: out if hunting, else due.
-pub fn start(hunting: bool, asking: Asking, copies: u8) -> Act
-    ensures { result ≡ spec.start hunting asking copies }
+#[inline]
+pub fn start(hunting: bool, asks: Option<u8>, copies: u8) -> Act
+    ensures { result ≡ spec.start hunting asks copies }
 {
     if hunting {
-        return put_out(asking, copies);
-    }
-    goes_on(
-        Job::Due {
-            asking: asking,
-            copies: copies,
-        },
-        Sending::Due,
-    )
-}
-
-fn not_sent(asking: Asking, copies: u8) -> Session
-    ensures { result ≡ spec.not_sent asking copies }
-{
-    match asking {
-        Asking::Plain => Session::Nothing,
-        Asking::Asks { command: _ } => Session::NotSent(copies),
+        put_out(asks, copies)
+    } else {
+        Act::goes_on(Job::Due { asks, copies }, Sending::Due)
     }
 }
 
-fn fail(asking: Asking, copies: u8) -> Act
-    ensures { result ≡ spec.fail asking copies }
+#[inline]
+fn not_sent(asks: Option<u8>, copies: u8) -> Session
+    ensures { result ≡ spec.not_sent asks copies }
 {
-    let session = not_sent(asking, copies);
+    match asks {
+        None => Session::Nothing,
+        Some(_) => Session::NotSent(copies),
+    }
+}
+
+#[inline]
+fn fail(asks: Option<u8>, copies: u8) -> Act
+    ensures { result ≡ spec.fail asks copies }
+{
     Act {
-        job: Job::Idle,
-        sending: Sending::Failed(copies),
-        session: session,
+        session: not_sent(asks, copies),
         reset: Reset::Delivery,
-        copy: false,
+        ..Act::goes_on(Job::Idle, Sending::Failed(copies))
     }
 }
 
 // So many ticks go by before the next copy.
-fn backing_off(time: Millis, asking: Asking, copies: u8) -> Act
+#[inline]
+fn backing_off(time: Millis, asks: Option<u8>, copies: u8) -> Act
     requires { time.0 < 65536 }
-    ensures { result ≡ spec.backing_off time asking copies }
+    ensures { result ≡ spec.backing_off time asks copies }
 {
     let left = time.0 as u16;
-    goes_on(
-        Job::BackingOff {
-            asking: asking,
-            copies: copies,
-            left: left,
-        },
+    Act::goes_on(
+        Job::BackingOff { asks, copies, left },
         Sending::BackingOff(time),
     )
 }
 
 // Backs off so many ticks. With 0 there is no back-off: the next copy goes out at once if hunting, else it is due.
-fn back_off(time: Millis, hunting: bool, asking: Asking, copies: u8) -> Act
+#[inline]
+fn back_off(time: Millis, hunting: bool, asks: Option<u8>, copies: u8) -> Act
     requires { time.0 < 65536 }
-    ensures { result ≡ spec.back_off time.0 hunting asking copies }
+    ensures { result ≡ spec.back_off time.0 hunting asks copies }
 {
     if time.0 == 0 {
-        return start(hunting, asking, copies);
+        return start(hunting, asks, copies);
     }
-    backing_off(time, asking, copies)
+    backing_off(time, asks, copies)
 }
 
 // One of three times: after copy 1, after copy 2, after copy 3.
+#[inline]
 fn by_copy(copies: u8, first: Millis, second: Millis, third: Millis) -> Millis
     ensures { result.0 ≡ by_copy first.0 second.0 third.0 copies }
 {
-    if copies == 1 {
-        return first;
+    match copies {
+        1 => first,
+        2 => second,
+        _ => third,
     }
-    if copies == 2 {
-        return second;
-    }
-    third
 }
 
 // The back-off in full.
+#[inline]
 fn in_full(copies: u8) -> Millis
     ensures { result.0 ≡ back_offs copies }
 {
@@ -196,6 +194,7 @@ fn in_full(copies: u8) -> Millis
 }
 
 // And less what was already waited.
+#[inline]
 fn sooner(copies: u8) -> Millis
     ensures { result.0 ≡ sooner_offs copies }
 {
@@ -203,6 +202,7 @@ fn sooner(copies: u8) -> Millis
 }
 
 // The back-off after a loss by time, by the mode.
+#[inline]
 fn after_silence(mode: Mode, copies: u8) -> Millis
     ensures { result.0 ≡ back_by mode Time copies }
 {
@@ -213,6 +213,7 @@ fn after_silence(mode: Mode, copies: u8) -> Millis
 }
 
 // The back-off by the mode and the cause: 15 and 18 have it in full.
+#[inline]
 fn back_off_after(mode: Mode, cause: Cause, copies: u8) -> Millis
     ensures { result.0 ≡ back_by mode cause copies }
 {
@@ -223,23 +224,12 @@ fn back_off_after(mode: Mode, cause: Cause, copies: u8) -> Millis
 }
 
 // The copy is given up: after copies 1, 2 and 3 the sender backs off, after copy 4 the send has failed.
-pub fn lose(choice: Choice, cause: Cause, hunting: bool, asking: Asking, copies: u8) -> Act
-    ensures { result ≡ spec.lose (rules_of choice) cause hunting asking copies }
+pub fn lose(choice: Choice, cause: Cause, hunting: bool, asks: Option<u8>, copies: u8) -> Act
+    ensures { result ≡ spec.lose (rules_of choice) cause hunting asks copies }
 {
     if 4 <= copies {
-        return fail(asking, copies);
+        return fail(asks, copies);
     }
-    let mode = choice.mode;
-    let time = back_off_after(mode, cause, copies);
-    back_off(time, hunting, asking, copies)
-}
-
-// A send or session is open.
-pub fn is_open(job: Job) -> bool
-    ensures { result ≡ spec.is_open job }
-{
-    if let Job::Idle = job {
-        return false;
-    }
-    true
+    let time = back_off_after(choice.mode, cause, copies);
+    back_off(time, hunting, asks, copies)
 }

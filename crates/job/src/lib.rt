@@ -5,5 +5,5 @@ mod job;
 mod ticks;
 mod wire;
 
-pub use job::{Act, Asking, Job, goes_on, is_open, lose, start};
+pub use job::{Act, Job, lose, start};
 pub use ticks::{on_abort, on_tick};

@@ -1,30 +1,37 @@
 -- Section 3, link calls: the promise of every call.
 -- Assumes nothing.
-use Rattle.std.specs.Prelude.{ℕ, ◌≡◌, List}
+use Rattle.std.specs.Prelude.{ℕ, ◌≡◌, List, Result, Ok, Err}
+use Rattle.refusals.specs.declared.Refusal.{Refusal}
+use Rattle.report.specs.declared.Report.{Report}
 use Rattle.frame.specs.Bytes.{over}
-use Rattle.step.specs.Checks.{checks}
-use Rattle.step.specs.declared.checks.Checked.{Checked}
-use Rattle.step.specs.declared.checks.Checked.TheVariants.{Passes, Refuses}
+use Rattle.step.specs.Checks.{checks, Checked, passes}
 use Rattle.link.specs.Out.{Out, Taken, out_report}
 use Rattle.link.specs.declared.link.Link.{Link}
-use Rattle.link.specs.declared.calls.Answer.TheVariants as answer
-use Rattle.link.specs.declared.calls.Answered.{Answered}
-use Rattle.link.specs.declared.calls.RunAnswer.TheVariants as run
-use Rattle.link.specs.declared.calls.Ran.{Ran}
+use Rattle.link.specs.declared.calls.Run.{Run}
 
--- A refusal returns its number alone, and hands the link back unchanged with it.
+-- What a call came to: the link as the call left it, and what was answered. Of a run of bytes too. (Two of each, and not one over a type:
+-- the theorems of each promise, from call_determined and run_determined on, and docs/PROMISES.md name both.)
+pub record Answered : Type 0 where
+  pub link : Link
+  pub answer : Result Report Refusal
+
+pub record Ran : Type 0 where
+  pub link : Link
+  pub answer : Result Run Refusal
+
+-- A refusal returns its number alone, and leaves the link unchanged.
 abbrev pub answered : Checked → Out → Link → Answered
-answered Passes o l = record { link = o.link; answer = answer.Done (out_report o) }
-answered (Refuses k) o l = record { link = l; answer = answer.Refused k }
+answered (Ok _) o l = record { link = o.link; answer = Ok (out_report o) }
+answered (Err k) o l = record { link = l; answer = Err k }
 
 abbrev pub ran : Checked → Taken → Link → Ran
-ran Passes t l = record { link = t.out.link; answer = run.Done (out_report t.out) t.taken }
-ran (Refuses k) t l = record { link = l; answer = run.Refused k }
+ran (Ok _) t l = record { link = t.out.link; answer = Ok (record { report = out_report t.out; taken = t.taken }) }
+ran (Err k) t l = record { link = l; answer = Err k }
 
 -- A call writes the first bytes that it reports and no others; a refusal none.
 abbrev pub left : Checked → List ℕ → List ℕ → List ℕ
-left Passes bytes lent = over bytes lent
-left (Refuses k) bytes lent = lent
+left (Ok _) bytes lent = over bytes lent
+left (Err k) bytes lent = lent
 
 -- the promise of a link call with these checks of its own, that gives o on the link l
 pub record CallPromise (own : Checked) (o : Out) (l : Link) (line up : List ℕ) (r : Answered) (line' up' : List ℕ) : Type 0 where
@@ -34,6 +41,6 @@ pub record CallPromise (own : Checked) (o : Out) (l : Link) (line up : List ℕ)
 
 -- and of a run of bytes
 pub record RunPromise (t : Taken) (l : Link) (line up : List ℕ) (r : Ran) (line' up' : List ℕ) : Type 0 where
-  pub answer : r ≡ ran (checks line up Passes) t l
-  pub line_left : line' ≡ left (checks line up Passes) t.out.line line
-  pub up_left : up' ≡ left (checks line up Passes) t.out.up up
+  pub answer : r ≡ ran (checks line up passes) t l
+  pub line_left : line' ≡ left (checks line up passes) t.out.line line
+  pub up_left : up' ≡ left (checks line up passes) t.out.up up

@@ -1,16 +1,25 @@
--- Section 3, link calls in place: the caller keeps a link's parts, and a call promises what the call on the link of these parts does.
+-- Section 3: a link is its parts, and what a call came to can be seen so: the numbers and the answer, beside the two arrays.
 -- Assumes nothing.
-use Rattle.std.specs.Prelude.{ℕ, List}
+use Rattle.std.specs.Prelude.{ℕ, List, Result}
+use Rattle.refusals.specs.declared.Refusal.{Refusal}
+use Rattle.report.specs.declared.Report.{Report}
 use Rattle.step.specs.declared.numbers.Core.{Core}
 use Rattle.link.specs.declared.link.Link.{Link}
-use Rattle.link.specs.declared.calls.Answered.{Answered}
-use Rattle.link.specs.declared.calls.Ran.{Ran}
-use Rattle.link.specs.declared.in_place.AnsweredIn.{AnsweredIn}
-use Rattle.link.specs.declared.in_place.RanIn.{RanIn}
+use Rattle.link.specs.declared.calls.Run.{Run}
+use Rattle.link.specs.Calls.{Answered, Ran}
 
 -- the link of these parts
 abbrev pub link_of : Core → List ℕ → List ℕ → Link
 link_of core body frame = record { core = core; body = body; frame = frame }
+
+-- the numbers of the next link beside the answer; with a refusal, unchanged
+pub record AnsweredIn : Type 0 where
+  pub core : Core
+  pub answer : Result Report Refusal
+
+pub record RanIn : Type 0 where
+  pub core : Core
+  pub answer : Result Run Refusal
 
 -- what a call answered, put together with the arrays as it left them
 abbrev pub put_together : AnsweredIn → List ℕ → List ℕ → Answered

@@ -1,6 +1,6 @@
 -- What an accepted call gives: the next link, the report and what goes out, by what is decided (sections 4 to 7).
 -- Assumes nothing.
-use Rattle.std.specs.Prelude.{ℕ, ◌+◌, Bool, true, List, [], ◌∷◌, length, take}
+use Rattle.std.specs.Prelude.{ℕ, ◌+◌, Bool, true, List, [], ◌∷◌, length, take, Option}
 use Rattle.refusals.specs.Pick.{pick}
 use Rattle.frame.specs.Bytes.{over}
 use Rattle.rules.specs.Rules.{Rules}
@@ -13,7 +13,6 @@ use Rattle.rules.specs.declared.Choice.{Choice}
 use Rattle.hearing.specs.declared.hearing.Heard.{Heard}
 use Rattle.hearing.specs.declared.hearing.Hearing.{Hearing}
 use Rattle.hearing.specs.declared.hearing.Hearing.TheVariants.{Hunting}
-use Rattle.job.specs.declared.job.Asking.{Asking}
 use Rattle.report.specs.declared.Reception.{Reception}
 use Rattle.report.specs.declared.Reception.TheVariants as reception
 use Rattle.report.specs.declared.Reset.{Reset}
@@ -78,7 +77,7 @@ unfoldable pub tick_out : Rules → Link → Out
 tick_out R l = heard_out R l.core l.body l.frame (hear_tick l.core.hearing)
 
 -- The frame is held in the link.
-unfoldable pub open_out : Link → Asking → List ℕ → Out
+unfoldable pub open_out : Link → Option ℕ → List ℕ → Out
 open_out l a f = out l.body (over f l.frame) l.core.hearing (length f) l.core.choice (opening (is_hunting l.core.hearing) a l.core.bad)
 
 -- Restart makes the link fresh; it stays what it was opened as.

@@ -1,15 +1,14 @@
 -- What carries the promises of the calls between the functions that answer them.
 -- Assumes nothing.
-use Rattle.std.specs.Prelude.{ℕ, ◌≡◌, Bool, List, [], length, take}
+use Rattle.std.specs.Prelude.{ℕ, ◌≡◌, Bool, List, [], length, take, Option}
 use Rattle.frame.specs.Bytes.{over}
 use Rattle.frame.specs.Frame.{MAX_BODY, MAX_FRAME}
-use Rattle.reception.specs.declared.said.Reply.{Reply}
 use Rattle.writing.specs.Writing.{line_bytes}
 use Rattle.link.specs.Out.{Out, out_report}
-use Rattle.link.specs.declared.calls.Answer.TheVariants as answer
-use Rattle.link.specs.declared.calls.Answered.{Answered}
+use Rattle.link.specs.declared.link.Link.{Link}
 use Rattle.report.specs.declared.Report.{Report}
 use Rattle.step.specs.declared.deciding.Outcome.{Outcome}
+use Rattle.hearing.specs.declared.hearing.Single.{Single}
 
 -- the report of an outcome, with the numbers of bytes written
 abbrev pub report_of : Outcome → ℕ → ℕ → Report
@@ -17,7 +16,7 @@ report_of o line up = record { reception = o.reception; sending = o.sending; ses
 
 -- What goes out of a link's own arrays. How many bytes that is, any arrays of these sizes tell: so a proof of the counts shows nothing of
 -- the bytes.
-pub record LineOut (reply : Reply) (copy : Bool) (size : ℕ) (frame line : List ℕ) (r : ℕ) (line' : List ℕ) : Type 0 where
+pub record LineOut (reply : Option Single) (copy : Bool) (size : ℕ) (frame line : List ℕ) (r : ℕ) (line' : List ℕ) : Type 0 where
   pub count : (x : List ℕ) → length x ≡ MAX_FRAME → r ≡ length (line_bytes reply copy size x)
   pub left : line' ≡ over (line_bytes reply copy size frame) line
 
@@ -26,7 +25,15 @@ pub record UpOut (n : ℕ) (body up : List ℕ) (r : ℕ) (up' : List ℕ) : Typ
   pub left : up' ≡ over (take n body) up
 
 -- an accepted call that hands nothing up
-pub record Emitted (o : Out) (line : List ℕ) (r : Answered) (line' : List ℕ) : Type 0 where
-  pub answer : r ≡ record { link = o.link; answer = answer.Done (out_report o) }
+pub record Emitted (o : Out) (line : List ℕ) (link : Link) (r : Report) (line' : List ℕ) : Type 0 where
+  pub link_left : link ≡ o.link
+  pub report : r ≡ out_report o
   pub line_left : line' ≡ over o.line line
   pub none_up : o.up ≡ []
+
+-- an accepted call that hands up what o says
+pub record Concluded (o : Out) (line up : List ℕ) (link : Link) (r : Report) (line' up' : List ℕ) : Type 0 where
+  pub link_left : link ≡ o.link
+  pub report : r ≡ out_report o
+  pub line_left : line' ≡ over o.line line
+  pub up_left : up' ≡ over o.up up

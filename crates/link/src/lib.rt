@@ -3,11 +3,7 @@
 
 mod calls;
 mod emit;
-mod in_place;
 mod link;
 
-pub use calls::{Answer, Answered, Ran, RunAnswer};
-pub use in_place::{
-    AnsweredIn, RanIn, byte_in, bytes_in, restart_in, send_in, session_in, tick_in,
-};
-pub use link::{Link, Timings};
+pub use calls::Run;
+pub use link::{Link, Parts, Timings};

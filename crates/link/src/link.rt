@@ -2,6 +2,7 @@
 ghost use Rattle.std.specs.Prelude.{◌≡◌};
 ghost use Rattle.rules.specs.Rules.{usual};
 ghost use Rattle.link.specs.Link.{fresh_link, timings};
+ghost use Rattle.link.specs.InPlace.{link_of};
 
 use frame::{MAX_BODY, MAX_FRAME};
 use hearing::Hearing;
@@ -10,17 +11,47 @@ use rules::Choice;
 use step::Core;
 use units::Millis;
 
-// A link comes only from opening or an earlier call: no other crate can make one.
+// A link comes from opening, from an earlier call, or from parts that a caller keeps (`Parts`): no other crate can reach into one.
 #[derive(Clone, Copy)]
 pub struct Link {
     pub(crate) core: Core,
-    // The body of the half-received frame, and the frame being sent.
+    // The body of the half-received frame, and the frame being sent. (Arrays, and their lengths in `core`: no heap, and `fresh_link`, `keep` and
+    // `over` are of these.)
     pub(crate) body: [u8; MAX_BODY],
     pub(crate) frame: [u8; MAX_FRAME],
 }
 
-// The protocol's timings, together.
+// A link taken apart, for a caller that keeps its numbers and its two arrays itself. Any parts make a link, those too that no call
+// leaves: on such a link a call promises what it promises on any.
 #[derive(Clone, Copy)]
+pub struct Parts {
+    pub core: Core,
+    pub body: [u8; MAX_BODY],
+    pub frame: [u8; MAX_FRAME],
+}
+
+// The link of these parts.
+impl From<Parts> for Link {
+    ghost from_gives = { λ parts link. link ≡ link_of parts.core parts.body parts.frame };
+
+    fn from(parts: Parts) -> Link {
+        let Parts { core, body, frame } = parts;
+        Link { core, body, frame }
+    }
+}
+
+// And its parts.
+impl From<Link> for Parts {
+    ghost from_gives = { λ link parts. link ≡ link_of parts.core parts.body parts.frame };
+
+    fn from(link: Link) -> Parts {
+        let Link { core, body, frame } = link;
+        Parts { core, body, frame }
+    }
+}
+
+// The protocol's timings, together.
+#[derive(Clone, Copy, Debug, PartialEq, Eq)]
 pub struct Timings {
     pub frame_time: Millis,
     pub ack_wait: Millis,
@@ -59,17 +90,15 @@ impl Link {
     pub fn open() -> Self
         ensures { result ≡ fresh_link usual }
     {
-        let choice = Choice::usual();
-        Link::open_as(choice)
+        Link::open_as(Choice::usual())
     }
 
     // Opening with a choice, which the link keeps from then on.
     pub fn open_as(choice: Choice) -> Self
         ensures { result ≡ fresh_link choice }
     {
-        let core = Core::fresh(choice);
         Link {
-            core: core,
+            core: Core::fresh(choice),
             body: [0; MAX_BODY],
             frame: [0; MAX_FRAME],
         }
@@ -79,25 +108,16 @@ impl Link {
     pub fn timings() -> Timings
         ensures { result ≡ timings }
     {
-        let frame_time = Link::FRAME_TIME;
-        let ack_wait = Link::ACK_WAIT;
-        let response_wait = Link::RESPONSE_WAIT;
-        let back_off_1 = Link::BACK_OFF_1;
-        let back_off_2 = Link::BACK_OFF_2;
-        let back_off_3 = Link::BACK_OFF_3;
-        let sooner_1 = Link::SOONER_1;
-        let sooner_2 = Link::SOONER_2;
-        let sooner_3 = Link::SOONER_3;
         Timings {
-            frame_time: frame_time,
-            ack_wait: ack_wait,
-            response_wait: response_wait,
-            back_off_1: back_off_1,
-            back_off_2: back_off_2,
-            back_off_3: back_off_3,
-            sooner_1: sooner_1,
-            sooner_2: sooner_2,
-            sooner_3: sooner_3,
+            frame_time: Link::FRAME_TIME,
+            ack_wait: Link::ACK_WAIT,
+            response_wait: Link::RESPONSE_WAIT,
+            back_off_1: Link::BACK_OFF_1,
+            back_off_2: Link::BACK_OFF_2,
+            back_off_3: Link::BACK_OFF_3,
+            sooner_1: Link::SOONER_1,
+            sooner_2: Link::SOONER_2,
+            sooner_3: Link::SOONER_3,
         }
     }
 }

@@ -10,15 +10,10 @@ use native.Mathlib.Omega.{arith}
 use lib.Arith.{mod-mul}
 use lib.Count.{ones, ones_cat}
 use lib.Dec.{eqb, lit<, eqb-suc-zero}
-use lib.ListN.{length, get_or, drop, drop_of_length-le, length-append, get_or-eq_default}
-use lib.Seq.{drop-cons}
-use borrow.Author.Tests.{ne_eqb}
+use lib.ListN.{length, get_or, length-append, get_or-eq_default}
+use Rattle.std.proofs.lemmas.List.Sums.{sum_by-cons}
 use Rattle.refusals.specs.Pick.{pick}
 use Rattle.masks.specs.Mask.{bit, bit_of, is_marked, marked, ones_in}
-
--- of a number that is not 0 the bit decides
-pub marks_bit : (mask : List ℕ) (f : ℕ) → (f ≡ 0 → ⊥) → is_marked mask f ≡ eqb (bit_of mask f) 1
-marks_bit mask f h = simp (ne_eqb f 0 h)
 
 -- the bit of n + 1, counted from 0
 abbrev pub nth : List ℕ → ℕ → ℕ
@@ -120,7 +115,8 @@ unfolding ones_in marked
 ones_marked [] bytes = refl
 ones_marked (byte ∷ mask) bytes =
     let size : 8 + length mask * 8 ≡ suc (length mask) * 8 = omega arith in
-    ap (λ (x : ℕ). ones byte + x) (ones_marked mask (λ i. bytes (suc i)))
+    sum_by-cons ones byte mask
+    ∙ ap (λ (x : ℕ). ones byte + x) (ones_marked mask (λ i. bytes (suc i)))
     ∙ sym (in_front byte mask (length mask * 8) (bytes 0))
     ∙ ap (λ (x : ℕ). length (marked (byte ∷ mask) x)) size
 
@@ -133,13 +129,3 @@ ones_supported mask bytes few clear =
     ∙ ap length (sym (marked_past mask (length mask * 8) (256 - length mask * 8) (le_refl (length mask * 8))))
     ∙ ap (λ (x : ℕ). length (marked mask x)) size
     ∙ ap length (marked_no mask 255 clear)
-
--- ---- the number of one bits, at what is left of the mask
-
-pub ones_end : (mask : List ℕ) (i : ℕ) → length mask ≤ i → ones_in (drop i mask) ≡ 0
-unfolding ones_in
-ones_end mask i h = simp (drop_of_length-le mask h)
-
-pub ones_more : (mask : List ℕ) (i : ℕ) → i < length mask → ones_in (drop i mask) ≡ ones (get_or mask i 0) + ones_in (drop (i + 1) mask)
-unfolding ones_in
-ones_more mask i h = rw (drop-cons mask i 0 h) (simp add-one)

@@ -1,7 +1,7 @@
 -- Laws of writing a body.
---     write_met       the promise, by what is answered and what is left
 --     unread          what is refused is refused alike whatever the body is
 --     asked           from the body that was made to the body that was meant
+--     asked_whole     the same of a body of any length, where the reader takes no longer one
 --     cut_alike       from a body with its mask cut to the whole body
 --     laid_front, laid_behind, front_part    a body laid part by part, and taken again
 -- Assumes nothing.
@@ -14,22 +14,18 @@ use native.Mathlib.Omega.{arith}
 use lib.Dec.{leb, ltb}
 use lib.ListN.{length, take, drop}
 use lib.Seq.{paste, take_all, take-append_seam}
-use borrow.Author.Tests.{le-ltb, leb-true, leb-false}
+use borrow.Author.Tests.{le-ltb, leb-true, leb-false, ltb-true}
+use Rattle.std.specs.Prelude.{Result, Err}
 use Rattle.refusals.specs.Pick.{pick}
+use Rattle.refusals.specs.declared.Refusal.{Refusal}
 use Rattle.refusals.specs.declared.Refusal.TheVariants as refusal
 use Rattle.frame.specs.Bytes.{over}
 use Rattle.frame.specs.Promises.{Lay}
 use Rattle.frame.proofs.Over.{over_length, put_bytes, laid_in}
 use Rattle.masks.specs.Written.{written_of, body_left, Write}
 use Rattle.masks.specs.Promises.{carried}
-use Rattle.masks.specs.declared.written.Written.{Written}
-use Rattle.masks.specs.declared.written.Written.TheVariants.{Refused}
 
-pub write_met : (reads : Bool) (body lent : List ℕ) {r : Written} {lent' : List ℕ} → written_of reads (length body) (length lent) ≡ r
-    → lent' ≡ body_left r body lent → Write reads body lent r lent'
-write_met reads body lent e l = record { answer = sym e; left = l ∙ ap (λ (w : Written). body_left w body lent) (sym e) }
-
-replaced : {reads other : Bool} {body body' lent : List ℕ} {r : Written} {lent' : List ℕ} → reads ≡ other → body ≡ body'
+replaced : {reads other : Bool} {body body' lent : List ℕ} {r : Result ℕ Refusal} {lent' : List ℕ} → reads ≡ other → body ≡ body'
     → Write reads body lent r lent' → Write other body' lent r lent'
 replaced {lent = lent} p q w = record {
   answer = w.answer ∙ ap₂ (λ (t : Bool) (b : List ℕ). written_of t (length b) (length lent)) p q;
@@ -37,11 +33,11 @@ replaced {lent = lent} p q w = record {
 }
 
 unread_left : (t : Bool) (body other lent : List ℕ)
-    → body_left (pick t (Refused refusal.Room) (Refused refusal.Form)) body lent ≡ body_left (pick t (Refused refusal.Room) (Refused refusal.Form)) other lent
+    → body_left (pick t (Err refusal.Room) (Err refusal.Form)) body lent ≡ body_left (pick t (Err refusal.Room) (Err refusal.Form)) other lent
 unread_left true body other lent = refl
 unread_left false body other lent = refl
 
-pub unread : {reads other : Bool} (body long lent : List ℕ) {r : Written} {lent' : List ℕ} → reads ≡ false → other ≡ false
+pub unread : {reads other : Bool} (body long lent : List ℕ) {r : Result ℕ Refusal} {lent' : List ℕ} → reads ≡ false → other ≡ false
     → Write reads body lent r lent' → Write other long lent r lent'
 unread body long lent p q w = record {
   answer = w.answer ∙ ap (λ (t : Bool). written_of t (length body) (length lent)) p ∙ ap (λ (t : Bool). written_of t (length long) (length lent)) (sym q);
@@ -54,15 +50,24 @@ unread body long lent p q w = record {
 -- ---- what the reader was asked of, and what it was made for
 
 -- the reader was asked of the body that was made, which has at most 254 bytes
-pub asked : (takes : List ℕ → Bool) (made body lent : List ℕ) {reads : Bool} {r : Written} {lent' : List ℕ} → reads ≡ takes made → made ≡ body
+pub asked : (takes : List ℕ → Bool) (made body lent : List ℕ) {reads : Bool} {r : Result ℕ Refusal} {lent' : List ℕ} → reads ≡ takes made → made ≡ body
     → length body ≤ 254 → Write (carried reads made) made lent r lent' → Write (takes body) body lent r lent'
 asked takes made body lent e f h w = replaced (ap₂ carried (e ∙ ap takes f) f ∙ short) f w
   where
     short : carried (takes body) body ≡ takes body
     short = rw (le-ltb 254 (length body) h)
 
+-- and whatever it has, where the reader takes no longer one
+pub asked_whole : (takes : List ℕ → Bool) (made body lent : List ℕ) {r : Result ℕ Refusal} {lent' : List ℕ} → made ≡ body
+    → (254 < length body → takes body ≡ false) → Write (carried (takes made) made) made lent r lent' → Write (takes body) body lent r lent'
+asked_whole takes made body lent f long w = replaced (ap (λ (b : List ℕ). carried (takes b) b) f ∙ by (ltb 254 (length body)) refl) f w
+  where
+    by : (t : Bool) → ltb 254 (length body) ≡ t → pick t false (takes body) ≡ takes body
+    by true e = sym (long (ltb-true 254 (length body) e))
+    by false e = refl
+
 -- a mask cut to the bytes that there are: its body is the same, or the reader takes neither
-pub cut_alike : (takes : List ℕ → Bool) (body_of : List ℕ → List ℕ) (mask : List ℕ) (n most : ℕ) (lent : List ℕ) {r : Written} {lent' : List ℕ}
+pub cut_alike : (takes : List ℕ → Bool) (body_of : List ℕ → List ℕ) (mask : List ℕ) (n most : ℕ) (lent : List ℕ) {r : Result ℕ Refusal} {lent' : List ℕ}
     → n ≡ min (length mask) most
     → (most < length mask → (takes (body_of (take n mask)) ≡ false) × (takes (body_of mask) ≡ false))
     → Write (takes (body_of (take n mask))) (body_of (take n mask)) lent r lent' → Write (takes (body_of mask)) (body_of mask) lent r lent'

@@ -1,6 +1,6 @@
 -- Section 8: function f, or node f, is bit (f − 1) mod 8 of mask byte (f − 1) div 8. Not covered, or f = 0, is unsupported.
 -- Assumes nothing.
-use Rattle.std.specs.Prelude.{ℕ, zero, suc, ◌+◌, ◌-◌, ◌/◌, ◌%◌, ◌^◌, ◌<◌, Bool, false, List, [], ◌∷◌, ◌++◌, eqb, length, get_or}
+use Rattle.std.specs.Prelude.{ℕ, zero, suc, ◌-◌, ◌/◌, ◌%◌, ◌^◌, ◌<◌, Bool, false, List, [], ◌∷◌, ◌++◌, eqb, length, get_or, sum_by}
 use Rattle.std.specs.Int.Count.{ones}
 use Rattle.refusals.specs.Pick.{pick}
 
@@ -23,8 +23,7 @@ marked mask (suc n) = marked mask n ++ pick (is_marked mask (suc n)) (suc n ∷ 
 
 -- the number of one bits, byte by byte
 unfoldable pub ones_in : List ℕ → ℕ
-ones_in [] = 0
-ones_in (byte ∷ mask) = ones byte + ones_in mask
+ones_in mask = sum_by ones mask
 
 -- each is above every one before it: rising, and none twice
 abbrev pub Rising : List ℕ → Type 0

@@ -7,4 +7,4 @@ mod written;
 
 pub use mask::is_marked;
 pub use response::is_response;
-pub use written::{Written, write_body};
+pub use written::{Layout, write_body, write_parts};

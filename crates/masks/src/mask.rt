@@ -6,13 +6,9 @@ ghost use Rattle.masks.specs.Mask.{is_marked};
 pub fn is_marked(mask: &[u8], f: u16) -> bool
     ensures { result ≡ is_marked mask.now f }
 {
-    if f == 0 {
+    let Some(place) = f.checked_sub(1) else {
         return false;
-    }
-    let at = ((f - 1) / 8) as usize;
-    let k = (f - 1) % 8;
-    if mask.len() <= at {
-        return false;
-    }
-    (mask[at] >> k) & 1 == 1
+    };
+    mask.get(usize::from(place / 8))
+        .is_some_and(|byte| (*byte >> (place % 8)) & 1 == 1)
 }

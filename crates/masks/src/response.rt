@@ -8,11 +8,5 @@ use frame::RES;
 pub fn is_response(body: &[u8], command: u8) -> bool
     ensures { result ≡ is_response body.now command }
 {
-    if body.len() < 2 {
-        return false;
-    }
-    if body[0] != RES {
-        return false;
-    }
-    body[1] == command
+    body.starts_with(&[RES, command])
 }

@@ -1,18 +1,14 @@
 -- The list of those marked, written over a lent one, one number further.
 -- Assumes nothing.
-use mathlib.Core.Path.{◌≡◌, sym, ap, ap₂, ◌∙◌}
+use mathlib.Core.Path.{◌≡◌, sym, ap, ◌∙◌}
 use mathlib.Core.Bool.{true, false}
 use mathlib.Core.List.{List, [], ◌∷◌, ◌++◌}
-use Prim.Native.Nat.{ℕ, suc, ◌+◌, ◌-◌, ◌<◌}
-use native.Mathlib.Omega.{arith}
+use Prim.Native.Nat.{ℕ, suc, ◌+◌, ◌<◌}
 use native.Mathlib.Numerals.{add-one}
-use lib.ListN.{length, get_or, take, drop, set, length-append}
+use lib.ListN.{length, set, length-append}
 use Rattle.frame.specs.Bytes.{over}
 use Rattle.frame.proofs.Over.{put_byte}
 use Rattle.masks.specs.Mask.{is_marked, marked}
-use Rattle.nodes.specs.Nodes.{nodes_of}
-use Rattle.nodes.specs.Promises.{ListNodes, Fill}
-use Rattle.nodes.specs.declared.NodeList.TheVariants.{Answer}
 use Rattle.masks.proofs.Masks.{marked_yes, marked_no}
 
 module _ (mask lent list : List ℕ) (n k : ℕ) (count : n ≡ length (marked mask k)) (left : list ≡ over (marked mask k) lent) where
@@ -31,16 +27,3 @@ module _ (mask lent list : List ℕ) (n k : ℕ) (count : n ≡ length (marked m
 
 pub passed : (mask : List ℕ) (k : ℕ) → is_marked mask (k + 1) ≡ false → marked mask k ≡ marked mask (k + 1)
 passed mask k e = sym (ap (marked mask) (add-one k) ∙ marked_no mask k (rw add-one at e))
-
--- the nodes of a body are those of the mask between its count byte and the chip's two
-pub filled : (body lent lent' : List ℕ) (n : ℕ) → ListNodes (take (get_or body 4 0 + 5 - 5) (drop 5 body)) lent n lent'
-    → Fill body lent (Answer (get_or body 2 0) (get_or body 3 0) n (get_or body (get_or body 4 0 + 5) 0) (get_or body (get_or body 4 0 + 5 + 1) 0)) lent'
-filled body lent lent' n w =
-    let size : get_or body 4 0 + 5 - 5 ≡ get_or body 4 0 = omega arith in
-    let last : get_or body 4 0 + 5 + 1 ≡ get_or body 4 0 + 6 = omega arith in
-    let same : marked (take (get_or body 4 0 + 5 - 5) (drop 5 body)) 232 ≡ nodes_of body = ap (λ (k : ℕ). marked (take k (drop 5 body)) 232) size in
-    let count : n ≡ length (nodes_of body) = w.count ∙ ap length same in
-    record {
-      answer = ap₂ (λ (k i : ℕ). Answer (get_or body 2 0) (get_or body 3 0) k (get_or body (get_or body 4 0 + 5) 0) (get_or body i 0)) count last;
-      left = w.left ∙ ap (λ (nodes : List ℕ). over nodes lent) same;
-    }

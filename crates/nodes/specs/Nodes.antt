@@ -1,14 +1,15 @@
 -- Section 8, Node list RES (002, 7.4): version, capabilities, 29, 29 mask bytes, chip type, chip version; or with 0 for 29 and no mask.
 -- Assumes nothing.
-use Rattle.std.specs.Prelude.{ℕ, ◌+◌, ◌≡◌, Bool, false, List, [], ◌∷◌, ltb, eqb, length, get_or, take, drop}
+use Rattle.std.specs.Prelude.{ℕ, ◌+◌, ◌≡◌, Bool, false, List, [], ◌∷◌, ltb, eqb, length, get_or, take, drop, Result, Ok, Err}
 use Rattle.refusals.specs.Pick.{pick}
 use Rattle.frame.specs.Bytes.{over}
 use Rattle.refusals.specs.Refusals.{number_of}
+use Rattle.refusals.specs.declared.Refusal.{Refusal}
 use Rattle.refusals.specs.declared.Refusal.TheVariants as refusal
 use Rattle.masks.specs.Response.{is_response}
 use Rattle.masks.specs.Mask.{marked}
 use Rattle.nodes.specs.declared.NodeList.{NodeList}
-use Rattle.nodes.specs.declared.NodeList.TheVariants.{Refused, Answer}
+use Rattle.nodes.specs.declared.Controller.{Controller}
 
 -- command 02
 abbrev pub NODE_LIST : ℕ
@@ -49,31 +50,34 @@ node_mask body = take (get_or body 4 0) (drop 5 body)
 abbrev pub nodes_of : List ℕ → List ℕ
 nodes_of body = marked (node_mask body) LAST_NODE
 
+-- what stands around the mask
+abbrev pub controller_of : List ℕ → Controller
+controller_of body = record {
+  version = get_or body 2 0;
+  capabilities = get_or body 3 0;
+  chip_type = get_or body (get_or body 4 0 + 5) 0;
+  chip_version = get_or body (get_or body 4 0 + 6) 0;
+}
+
 abbrev pub node_answer : List ℕ → NodeList
-node_answer body =
-    Answer
-    (get_or body 2 0)
-    (get_or body 3 0)
-    (length (nodes_of body))
-    (get_or body (get_or body 4 0 + 5) 0)
-    (get_or body (get_or body 4 0 + 6) 0)
+node_answer body = record { controller = controller_of body; count = length (nodes_of body) }
 
 -- the number of the refusal; of an answer 0 and its values
-abbrev pub nodes_told : NodeList → List ℕ
-nodes_told (Refused k) = number_of k ∷ []
-nodes_told (Answer v c n t u) = 0 ∷ v ∷ c ∷ n ∷ t ∷ u ∷ []
+abbrev pub nodes_told : Result NodeList Refusal → List ℕ
+nodes_told (Err k) = number_of k ∷ []
+nodes_told (Ok l) = 0 ∷ l.controller.version ∷ l.controller.capabilities ∷ l.count ∷ l.controller.chip_type ∷ l.controller.chip_version ∷ []
 
 -- ROOM before FORM; the list needs room for 232
-abbrev pub node_list_of : List ℕ → ℕ → NodeList
+abbrev pub node_list_of : List ℕ → ℕ → Result NodeList Refusal
 node_list_of body room =
-    pick (ltb room LIST_ROOM) (Refused refusal.Room)
-    (pick (is_node_list body) (node_answer body) (Refused refusal.Form))
+    pick (ltb room LIST_ROOM) (Err refusal.Room)
+    (pick (is_node_list body) (Ok (node_answer body)) (Err refusal.Form))
 
 -- the lent list after the call
-abbrev pub list_left : NodeList → List ℕ → List ℕ → List ℕ
-list_left (Refused k) nodes lent = lent
-list_left (Answer v c n t u) nodes lent = over nodes lent
+abbrev pub list_left : Result NodeList Refusal → List ℕ → List ℕ → List ℕ
+list_left (Err k) nodes lent = lent
+list_left (Ok l) nodes lent = over nodes lent
 
-pub record ReadNodes (body lent : List ℕ) (r : NodeList) (lent' : List ℕ) : Type 0 where
+pub record ReadNodes (body lent : List ℕ) (r : Result NodeList Refusal) (lent' : List ℕ) : Type 0 where
   pub answer : r ≡ node_list_of body (length lent)
   pub left : lent' ≡ list_left (node_list_of body (length lent)) (nodes_of body) lent

@@ -8,7 +8,7 @@ ghost use Rattle.nodes.specs.Nodes as spec;
 ghost use Rattle.nodes.specs.Nodes.{is_node_list, ReadNodes};
 ghost use Rattle.nodes.specs.Promises.{OfNodeList, Fill, ListNodes};
 
-use masks::{is_marked, is_response};
+use masks::{Layout, is_marked, is_response};
 use refusals::Refusal;
 pub use writer::write_nodes;
 
@@ -27,45 +27,44 @@ const LAST_NODE: u8 = 232;
 
 pub const LIST_ROOM: usize = 232;
 
-#[derive(Clone, Copy)]
-pub enum NodeList {
-    Refused(Refusal),
-    // The nodes are the first `count` bytes of the lent list.
-    Answer {
-        version: u8,
-        capabilities: u8,
-        count: u8,
-        chip_type: u8,
-        chip_version: u8,
-    },
+// What the bytes around the mask say.
+#[derive(Clone, Copy, Debug, PartialEq, Eq)]
+pub struct Controller {
+    pub version: u8,
+    pub capabilities: u8,
+    pub chip_type: u8,
+    pub chip_version: u8,
 }
 
-// Whether the body is of one of the two layouts.
-fn is_node_list(body: &[u8]) -> bool
-    ensures { result ≡ is_node_list body.now }
-{
-    if !is_response(body, NODE_LIST) {
-        return false;
+#[derive(Clone, Copy, Debug, PartialEq, Eq)]
+pub struct NodeList {
+    pub controller: Controller,
+    // The nodes are the first so many bytes of the lent list (no heap: the caller lends it, and `ReadNodes` says what it holds).
+    pub count: u8,
+}
+
+impl Layout for NodeList {
+    ghost taken = { is_node_list };
+
+    fn takes(body: &[u8]) -> bool {
+        is_response(body, NODE_LIST)
+            && match body.len() {
+                FULL_LIST => body[4] == NODE_MASK,
+                EMPTY_LIST => body[4] == 0,
+                _ => false,
+            }
     }
-    if body.len() == FULL_LIST {
-        return body[4] == NODE_MASK;
-    }
-    if body.len() == EMPTY_LIST {
-        return body[4] == 0;
-    }
-    false
 }
 
 // Writes the nodes that the mask marks over the first bytes of the list, and answers how many they are.
+// `n` is counted by hand: the nodes are in the list that the caller lends (no heap), and a `filter` with a `zip` over it would not say how many.
 fn list_nodes(mask: &[u8], list: &mut [u8]) -> u8
     requires { spec.LIST_ROOM ≤ length list.old }
     ensures { ListNodes mask.now list.old result list.new }
 {
     let mut n: u8 = 0;
-    let mut k: u8 = 0;
-    while k < LAST_NODE {
-        k += 1;
-        if is_marked(mask, k as u16) {
+    for k in 1..=LAST_NODE {
+        if is_marked(mask, u16::from(k)) {
             list[n as usize] = k;
             n += 1;
         }
@@ -79,25 +78,27 @@ fn fill(body: &[u8], list: &mut [u8]) -> NodeList
     ensures { Fill body.now list.old result list.new }
 {
     let end = body[4] as usize + 5;
-    let count = list_nodes(&body[5..end], list);
-    NodeList::Answer {
+    let controller = Controller {
         version: body[2],
         capabilities: body[3],
-        count: count,
         chip_type: body[end],
         chip_version: body[end + 1],
+    };
+    NodeList {
+        controller,
+        count: list_nodes(&body[5..end], list),
     }
 }
 
 // Reads the whole body, and lists its nodes. Bytes of the list beyond them stay; a refusal leaves all of them.
-pub fn read_nodes(body: &[u8], list: &mut [u8]) -> NodeList
+pub fn read_nodes(body: &[u8], list: &mut [u8]) -> Result<NodeList, Refusal>
     ensures { ReadNodes body.now list.old result list.new }
 {
     if list.len() < LIST_ROOM {
-        return NodeList::Refused(Refusal::Room);
+        return Err(Refusal::Room);
     }
-    if !is_node_list(body) {
-        return NodeList::Refused(Refusal::Form);
+    if !NodeList::takes(body) {
+        return Err(Refusal::Form);
     }
-    fill(body, list)
+    Ok(fill(body, list))
 }

@@ -3,14 +3,14 @@
 use mathlib.Core.Path.{◌≡◌, refl, sym, ap, ◌∙◌}
 use mathlib.Core.Bool.{Bool, true, false, not, ◌||◌}
 use mathlib.Core.List.{List, [], ◌∷◌, ◌++◌, append-nil}
-use Prim.Native.Nat.{ℕ, zero, suc, ◌+◌, ◌-◌, ◌≤◌, ◌<◌}
+use Prim.Native.Nat.{ℕ, zero, suc, ◌+◌, ◌≤◌, ◌<◌}
 use native.Mathlib.Numerals.{add-one}
-use native.Mathlib.Nat.{add-zero, sub-zero}
+use native.Mathlib.Nat.{add-zero}
 use native.Mathlib.Omega.{arith}
 use lib.Dec.{eqb}
 use lib.ListN.{length, take, drop, get_or, set, length-append, length-drop, drop_of_length-le}
 use lib.Seq.{drop-cons, set_at, append_snoc, length-take-le}
-use borrow.Author.Tests.{eqb-true, eq-eqb, ne_eqb}
+use borrow.Author.Tests.{eqb-true}
 use Rattle.orders.specs.Lent.{mark, pattern, differs}
 
 pub pattern_length : (n : ℕ) → length (pattern n) ≡ n
@@ -36,15 +36,11 @@ pub differs_end : (i : ℕ) (l : List ℕ) → length l ≤ i → differs i (dro
 unfolding differs
 differs_end i l h = rw (drop_of_length-le l h) refl
 
--- a byte that does
-pub differs_at : (i : ℕ) (l : List ℕ) → i < length l → (get_or l i 0 ≡ mark i → ⊥) → differs i (drop i l) ≡ true
+-- the byte at a place, and those behind it
+pub differs_step : (i : ℕ) (l : List ℕ) → i < length l
+    → differs i (drop i l) ≡ (not (eqb (get_or l i 0) (mark i)) || differs (i + 1) (drop (i + 1) l))
 unfolding differs
-differs_at i l h e = rw (drop-cons l i 0 h, ne_eqb (get_or l i 0) (mark i) e) refl
-
--- one that does not
-pub differs_past : (i : ℕ) (l : List ℕ) → i < length l → get_or l i 0 ≡ mark i → differs i (drop i l) ≡ differs (i + 1) (drop (i + 1) l)
-unfolding differs
-differs_past i l h e = rw (add-one i, drop-cons l i 0 h, eq-eqb (get_or l i 0) (mark i) e) refl
+differs_step i l h = rw (add-one i, drop-cons l i 0 h) refl
 
 go_step : (n b : ℕ) (l : List ℕ) (t : Bool) → eqb b (mark n) ≡ t → (not t || differs (suc n) l) ≡ false
     → (differs (suc n) l ≡ false → pattern (suc n) ++ l ≡ pattern (suc n + length l)) → pattern n ++ (b ∷ l) ≡ pattern (n + suc (length l))
@@ -61,8 +57,8 @@ goes_on_lem n [] e = append-nil (pattern n) ∙ ap pattern (sym (add-zero n))
 goes_on_lem n (b ∷ l) e = go_step n b l (eqb b (mark n)) refl e (goes_on_lem (suc n) l)
 
 -- a buffer with its first m bytes filled, where no other differs
-pub restored : (m : ℕ) (d front : List ℕ) → m ≤ length d → differs m (drop m d) ≡ false → front ≡ pattern (length (take (m - 0) d))
-    → front ++ drop (m - 0) d ≡ pattern (length d)
+pub restored : (m : ℕ) (d front : List ℕ) → m ≤ length d → differs m (drop m d) ≡ false → front ≡ pattern (length (take m d))
+    → front ++ drop m d ≡ pattern (length d)
 restored m d front h e f =
     let size : m + length (drop m d) ≡ length d = omega (arith, length-drop m d) in
-    simp (f, sub-zero, length-take-le m d h) (goes_on_lem m (drop m d) e ∙ ap pattern size)
+    simp (f, length-take-le m d h) (goes_on_lem m (drop m d) e ∙ ap pattern size)

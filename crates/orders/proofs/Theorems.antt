@@ -6,7 +6,7 @@ use mathlib.Core.List.{List, [], ◌∷◌, ◌++◌}
 use mathlib.Core.Logic.{◌↔◌, ◌⊎◌, inl, inr, ⊎_elim}
 use Prim.Native.Nat.{ℕ, zero, suc, ◌+◌, ◌-◌, ◌*◌, ◌%◌, ◌≤◌, ◌<◌, min}
 use native.Mathlib.Omega.{arith}
-use native.Mathlib.Nat.{add-zero, add-suc, suc-add, mod-lt, mod-eq_of_lt, mod-add-mod, mod-eq-sub-mod, add-mod_right, add-mul-mod_self_right}
+use native.Mathlib.Nat.{min-le_left, min-le_right, add-zero, add-suc, suc-add, mod-lt, mod-eq_of_lt, mod-add-mod, mod-eq-sub-mod, add-mod_right, add-mul-mod_self_right}
 use lib.Dec.{leb, ltb, lit<, lit≤}
 use lib.ListN.{length, take, drop, get_or, length-drop, drop_of_length-le, get_or-append}
 use lib.Seq.{drop_at, get_or_at, get_or-drop, paste, take-paste}
@@ -19,7 +19,7 @@ use Rattle.orders.specs.declared.verb.LinkVerb.{LinkVerb}
 use Rattle.orders.specs.Verb.{is_tick, times_of}
 use Rattle.orders.specs.Bytes.{spelt_at}
 use Rattle.orders.specs.Lent.{mark, pattern, differs, is_spilled}
-use Rattle.orders.specs.Ends.{CallAt, KeepWhole}
+use Rattle.orders.specs.Ends.{CallAt, KeepWhole, none_pending}
 use Rattle.orders.proofs.Patterns.{pattern_length, goes_on_lem}
 use Rattle.orders.proofs.Keeping.{fits_within}
 
@@ -50,6 +50,17 @@ restore_determined lent = fixed
 pub within_determined : (n : ℕ) (lent : List ℕ) {r q : ℕ} → r ≡ min n (length lent) → q ≡ min n (length lent) → r ≡ q
 within_determined n lent = fixed
 
+-- the smaller of two numbers, which `within` takes
+pub least_determined : (a b : ℕ) {r q : ℕ} → r ≡ min a b → q ≡ min a b → r ≡ q
+least_determined a b = fixed
+
+-- it is neither above the first nor above the second
+pub least_first : (a b : ℕ) {r : ℕ} → r ≡ min a b → r ≤ a
+least_first a b e = omega (arith, e, min-le_left a b)
+
+pub least_second : (a b : ℕ) {r : ℕ} → r ≡ min a b → r ≤ b
+least_second a b e = omega (arith, e, min-le_right a b)
+
 -- a place that is 0 or 7, and is 7 exactly where the line asks the stand-in
 pub call_at_determined : {text : List ℕ} {n r q : ℕ} → CallAt text n r → CallAt text n q → r ≡ q
 call_at_determined {r} {q} a b = ⊎_elim front behind a.places
@@ -63,6 +74,16 @@ call_at_determined {r} {q} a b = ⊎_elim front behind a.places
 pub keep_whole_determined : {p : Pending} {bytes : List ℕ} {n : ℕ} {kept : List ℕ} {r q : Pending} {l m : List ℕ} → KeepWhole p bytes n kept r l
     → KeepWhole p bytes n kept q m → (r ≡ q) × (l ≡ m)
 keep_whole_determined a b = (fixed a.answer b.answer, fixed a.left b.left)
+
+pub nothing_determined : {r q : Pending} → r ≡ none_pending → q ≡ none_pending → r ≡ q
+nothing_determined = fixed
+
+-- a room that is made empty: its bytes are all 0 where it is made, and else what they were
+pub cleared_determined : (room : List ℕ) {r q : Pending} {l m : List ℕ} → r ≡ none_pending → l ≡ room → q ≡ none_pending → m ≡ room → (r ≡ q) × (l ≡ m)
+cleared_determined room a l b m = (fixed a b, fixed l m)
+
+pub bytes_determined : (room : List ℕ) (count : ℕ) {r q : List ℕ} → r ≡ take count room → q ≡ take count room → r ≡ q
+bytes_determined room count = fixed
 
 -- ---- what is kept
 

@@ -1,6 +1,6 @@
 -- The two ends of a play: which of them a line asks, and what each has put out that the other was not given yet.
 -- Assumes nothing.
-use Rattle.std.specs.Prelude.{ℕ, ◌+◌, ◌≤◌, ◌≡◌, true, List, [], ◌∷◌, ◌⊎◌, take}
+use Rattle.std.specs.Prelude.{ℕ, ◌+◌, ◌≤◌, ◌≡◌, true, false, List, [], ◌∷◌, ◌⊎◌, take}
 use Rattle.std.proofs.Math.Seq.{paste}
 use Rattle.refusals.specs.Pick.{pick}
 use Rattle.frame.specs.Promises.{fits}
@@ -19,6 +19,10 @@ pub record CallAt (text : List ℕ) (n r : ℕ) : Type 0 where
   pub places : (r ≡ 0) ⊎ (r ≡ 7)
   pub to : r ≡ 7 → AsksModule text n
   pub from : AsksModule text n → r ≡ 7
+
+-- nothing is kept, and nothing was lost
+abbrev pub none_pending : Pending
+none_pending = record { count = 0; is_lost = false }
 
 -- what is kept with a call's n bytes: all of them where they fit behind those that are kept, else none, and that is remembered
 abbrev pub kept_with : Pending → List ℕ → ℕ → List ℕ → Pending

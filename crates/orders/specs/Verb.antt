@@ -1,6 +1,6 @@
 -- The verbs of the orders that call the link.
 -- Assumes nothing.
-use Rattle.std.specs.Prelude.{ℕ, Bool, true, false}
+use Rattle.std.specs.Prelude.{ℕ, List, Bool, true, false, codes}
 use Rattle.orders.specs.declared.verb.LinkVerb.{LinkVerb}
 use Rattle.orders.specs.declared.verb.LinkVerb.TheVariants.{Send, Session, Byte, Bytes, Tick, Ticks, Restart}
 
@@ -23,3 +23,13 @@ times_of Bytes n = 1
 times_of Tick n = 1
 times_of Ticks n = n
 times_of Restart n = 1
+
+-- the name under which a line tells the call; each of many ticks is named as one
+abbrev pub verb_name : LinkVerb → List ℕ
+verb_name Send = codes "send"
+verb_name Session = codes "session"
+verb_name Byte = codes "byte"
+verb_name Bytes = codes "bytes"
+verb_name Tick = codes "tick"
+verb_name Ticks = codes "tick"
+verb_name Restart = codes "restart"

@@ -6,18 +6,12 @@ ghost use Rattle.orders.specs.Bytes.{spelt_at};
 pub fn spelt_at(bytes: &[u8], at: usize) -> u8
     ensures { result ≡ spelt_at bytes.now at }
 {
-    if at < bytes.len() {
-        return bytes[at];
-    }
-    0
+    bytes.get(at).copied().unwrap_or(0)
 }
 
 // What follows the first n bytes, nothing where there are fewer.
 pub fn behind(bytes: &[u8], n: usize) -> &[u8]
     ensures { result.now ≡ drop n bytes.now }
 {
-    if n <= bytes.len() {
-        return &bytes[n..];
-    }
-    &bytes[..0]
+    &bytes[n.min(bytes.len())..]
 }

@@ -13,24 +13,20 @@ fn mark(i: usize) -> u8
 pub fn fill(lent: &mut [u8])
     ensures { lent.new ≡ spec.pattern (length lent.old) }
 {
-    let mut i = 0;
-    while i < lent.len() {
+    // not over `iter_mut().enumerate()`: of an adapter of `iter_mut` no proof knows what it wrote
+    for i in 0..lent.len() {
         lent[i] = mark(i);
-        i += 1;
     }
 }
 
-// Whether a byte beyond the first n is not the pattern's. It does not stop early, so that many bytes are compared at once.
+// Whether a byte beyond the first n is not the pattern's. It does not stop early, as `any` would, so that many bytes are compared at once.
+// (By `fold` over `enumerate` and `skip` it would not either, but place and flag go as a pair more: no plainer.)
 pub fn is_spilled(lent: &[u8], n: usize) -> bool
     ensures { result ≡ spec.is_spilled lent.now n }
 {
     let mut differ = false;
-    let mut i = n;
-    while i < lent.len() {
-        if lent[i] != mark(i) {
-            differ = true;
-        }
-        i += 1;
+    for i in n..lent.len() {
+        differ |= lent[i] != mark(i);
     }
     differ
 }
@@ -42,9 +38,9 @@ pub fn restore(lent: &mut [u8], n: usize)
     let told = within(n, lent);
     if is_spilled(lent, told) {
         fill(lent);
-        return;
+    } else {
+        fill(&mut lent[..told]);
     }
-    fill(&mut lent[0..told]);
 }
 
 // The size of the part of a buffer to lend: at most all of it. The second clause lets a caller take that part with no more proof.
@@ -52,8 +48,5 @@ pub fn within(n: usize, lent: &[u8]) -> usize
     ensures value { result ≡ min n (length lent.now) }
     ensures upper_bound { result ≤ length lent.now }
 {
-    if n <= lent.len() {
-        return n;
-    }
-    lent.len()
+    n.min(lent.len())
 }

@@ -7,6 +7,6 @@ mod lent;
 mod verb;
 
 pub use bytes::{behind, spelt_at};
-pub use ends::{Pending, call_at, keep_whole};
+pub use ends::{Pending, Store, call_at};
 pub use lent::{fill, is_spilled, restore, within};
-pub use verb::{LinkVerb, is_tick, times_of};
+pub use verb::LinkVerb;

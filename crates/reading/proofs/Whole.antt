@@ -9,11 +9,12 @@ use lib.Dec.{ltb, eqb}
 use lib.ListN.{length, get_or, take, drop, length-drop}
 use lib.Seq.{take_at, take_all, take-suc, length-take-le}
 use borrow.Author.Tests.{le-ltb, eq-eqb, ne_eqb, ltb-false, eqb-true}
+use Rattle.std.specs.Prelude.{Result, Ok}
 use Rattle.refusals.specs.declared.Refusal.{Refusal}
-use Rattle.reading.specs.declared.reader.Reading.TheVariants.{Refused, Parts}
+use Rattle.reading.specs.declared.reader.Parts.{Parts}
 use Rattle.frame.specs.Frame.{checksum, frame_of}
-use Rattle.reading.specs.Reader.{read, parameters_of}
-use Rattle.refusals.proofs.Picks.{picked_first, picked_second}
+use Rattle.reading.specs.Reader.{frame_parts, read, parameters_of}
+use Rattle.refusals.proofs.Picks.{picked_first, picked_second, err_not_ok}
 
 pub record Whole (bytes : List ℕ) (kind command n : ℕ) : Type 0 where
   pub first : get_or bytes 0 0 ≡ 1
@@ -24,19 +25,16 @@ pub record Whole (bytes : List ℕ) (kind command n : ℕ) : Type 0 where
   pub size : length bytes ≡ n + 5
   pub sum : get_or bytes (n + 4) 0 ≡ checksum (take (n + 3) (drop 1 bytes))
 
--- a refusal is no frame's parts
-not_refused : {k : Refusal} {kind command n : ℕ} → Refused k ≡ Parts kind command n → ⊥
-not_refused e = let z : ◌≡◌ {A = ℕ} 0 1 = cc in omega arith
-
 -- what the tests of `read` say, gathered
 whole_of_lem : (bytes : List ℕ) (kind command n : ℕ) → get_or bytes 0 0 ≡ 1
     → 3 ≤ get_or bytes 1 0 → get_or bytes 1 0 + 2 ≤ length bytes → length bytes ≤ get_or bytes 1 0 + 2
     → checksum (take (get_or bytes 1 0) (drop 1 bytes)) ≡ get_or bytes (get_or bytes 1 0 + 1) 0 → get_or bytes 2 0 ≤ 1
-    → Parts (get_or bytes 2 0) (get_or bytes 3 0) (get_or bytes 1 0 - 3) ≡ Parts kind command n → Whole bytes kind command n
+    → ◌≡◌ {A = Result Parts Refusal} (Ok (frame_parts (get_or bytes 2 0) (get_or bytes 3 0) (get_or bytes 1 0 - 3))) (Ok (frame_parts kind command n)) → Whole bytes kind command n
 whole_of_lem bytes kind command n start long whole alone right known e =
-    let k : get_or bytes 2 0 ≡ kind = cc in
-    let m : get_or bytes 3 0 ≡ command = cc in
-    let d : get_or bytes 1 0 - 3 ≡ n = cc in
+    let s : frame_parts (get_or bytes 2 0) (get_or bytes 3 0) (get_or bytes 1 0 - 3) ≡ frame_parts kind command n = cc in
+    let k : get_or bytes 2 0 ≡ kind = ap (λ (p : Parts). p.kind) s in
+    let m : get_or bytes 3 0 ≡ command = ap (λ (p : Parts). p.command) s in
+    let d : get_or bytes 1 0 - 3 ≡ n = ap (λ (p : Parts). p.count) s in
     let c : get_or bytes 1 0 ≡ n + 3 = omega arith in
     let f : get_or bytes 1 0 + 1 ≡ n + 4 = omega arith in
     record {
@@ -49,16 +47,16 @@ whole_of_lem bytes kind command n start long whole alone right known e =
       sum = ap (λ (i : ℕ). get_or bytes i 0) (sym f) ∙ sym right ∙ ap (λ (l : ℕ). checksum (take l (drop 1 bytes))) c;
     }
 
-pub reads_whole : (bytes : List ℕ) (kind command n : ℕ) → read bytes ≡ Parts kind command n → Whole bytes kind command n
+pub reads_whole : (bytes : List ℕ) (kind command n : ℕ) → read bytes ≡ Ok (frame_parts kind command n) → Whole bytes kind command n
 reads_whole bytes kind command n e =
-    let some = picked_second (eqb (length bytes) 0) not_refused e in
-    let start = picked_first (eqb (get_or bytes 0 0) 1) not_refused some.1 in
-    let more = picked_second (eqb (length bytes) 1) not_refused start.1 in
-    let long = picked_second (ltb (get_or bytes 1 0) 3) not_refused more.1 in
-    let whole = picked_second (ltb (length bytes) (get_or bytes 1 0 + 2)) not_refused long.1 in
-    let alone = picked_second (ltb (get_or bytes 1 0 + 2) (length bytes)) not_refused whole.1 in
-    let right = picked_first (eqb (checksum (take (get_or bytes 1 0) (drop 1 bytes))) (get_or bytes (get_or bytes 1 0 + 1) 0)) not_refused alone.1 in
-    let known = picked_second (ltb 1 (get_or bytes 2 0)) not_refused right.1 in
+    let some = picked_second (eqb (length bytes) 0) err_not_ok e in
+    let start = picked_first (eqb (get_or bytes 0 0) 1) err_not_ok some.1 in
+    let more = picked_second (eqb (length bytes) 1) err_not_ok start.1 in
+    let long = picked_second (ltb (get_or bytes 1 0) 3) err_not_ok more.1 in
+    let whole = picked_second (ltb (length bytes) (get_or bytes 1 0 + 2)) err_not_ok long.1 in
+    let alone = picked_second (ltb (get_or bytes 1 0 + 2) (length bytes)) err_not_ok whole.1 in
+    let right = picked_first (eqb (checksum (take (get_or bytes 1 0) (drop 1 bytes))) (get_or bytes (get_or bytes 1 0 + 1) 0)) err_not_ok alone.1 in
+    let known = picked_second (ltb 1 (get_or bytes 2 0)) err_not_ok right.1 in
     whole_of_lem bytes kind command n
     (eqb-true _ _ start.0)
     (ltb-false _ _ long.0)
@@ -68,7 +66,7 @@ reads_whole bytes kind command n e =
     (ltb-false _ _ known.0)
     known.1
 
-pub whole_reads : (bytes : List ℕ) (kind command n : ℕ) → Whole bytes kind command n → read bytes ≡ Parts kind command n
+pub whole_reads : (bytes : List ℕ) (kind command n : ℕ) → Whole bytes kind command n → read bytes ≡ Ok (frame_parts kind command n)
 whole_reads bytes kind command n w =
     let f : n + 3 + 1 ≡ n + 4 = omega arith in
     let some : length bytes ≡ 0 → ⊥ = λ e. omega arith in

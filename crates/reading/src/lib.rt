@@ -3,4 +3,4 @@
 
 mod reader;
 
-pub use reader::{Reading, read};
+pub use reader::{Parts, read};

@@ -22,7 +22,8 @@ use Rattle.report.specs.Told.{reception_case}
 use Rattle.report.specs.declared.Reception.TheVariants as reception
 use Rattle.report.specs.declared.Reset.TheVariants as reset
 use Rattle.reception.specs.declared.said.Awaited.TheVariants as awaited
-use Rattle.reception.specs.declared.said.Reply.TheVariants.{Silent, Ack, Nak, Can}
+use Rattle.hearing.specs.declared.hearing.Single.TheVariants.{Ack, Nak, Can}
+use Rattle.std.specs.Prelude.{Some, None}
 use Rattle.hearing.specs.declared.hearing.Event.{Event}
 use Rattle.reception.specs.declared.said.Awaited.{Awaited}
 use Rattle.reception.specs.declared.said.Said.{Said}
@@ -45,9 +46,9 @@ sums_on_determined e bad = fixed
 -- ---- the stand-in
 -- "While it waits for an ACK, a frame of type 00 or 01 with the right checksum is answered with 18, reported as cancelled and not handed up."
 pub cancels_frames : (size command : ℕ)
-    → (said_end Module (end.Request size) awaited.Ack ≡ saying reception.Cancelled Can 0)
-    × (said_end Module (end.Response size command) awaited.Ack ≡ saying reception.Cancelled Can 0)
-    × (reply_bytes Can ≡ 0x18 ∷ [])
+    → (said_end Module (end.Request size) awaited.Ack ≡ saying reception.Cancelled (Some Can) 0)
+    × (said_end Module (end.Response size command) awaited.Ack ≡ saying reception.Cancelled (Some Can) 0)
+    × (reply_bytes (Some Can) ≡ 0x18 ∷ [])
 cancels_frames size command = (refl, refl, refl)
 
 -- "The run of bad sums still returns to 0": of whatever is cancelled.
@@ -66,9 +67,9 @@ cancelled_ends_the_run role (end.Response size command) w n q = refl
 
 -- "Reserved types keep the old rule", and so do wrong checksums and bad lengths.
 pub others_as_ever : (role : Role) (w : Awaited)
-    → (said_end role end.Reserved w ≡ saying reception.Reserved Ack 0)
-    × (said_end role end.BadSum w ≡ saying reception.BadSum Nak 0)
-    × (said_end role end.BadLength w ≡ saying reception.BadLength Silent 0)
+    → (said_end role end.Reserved w ≡ saying reception.Reserved (Some Ack) 0)
+    × (said_end role end.BadSum w ≡ saying reception.BadSum (Some Nak) 0)
+    × (said_end role end.BadLength w ≡ saying reception.BadLength None 0)
 others_as_ever role w = (refl, refl, refl)
 
 -- While it awaits no ACK the stand-in says of every event what the host says.
@@ -87,8 +88,8 @@ alike TickInside w q = refl
 alike Aborted w q = refl
 
 -- The host cancels nothing: "put out 06 and hand up the body", whatever is awaited.
-pub host_request : (size : ℕ) (w : Awaited) → said_end Host (end.Request size) w ≡ saying reception.Frame Ack size
+pub host_request : (size : ℕ) (w : Awaited) → said_end Host (end.Request size) w ≡ saying reception.Frame (Some Ack) size
 host_request size w = refl
 
-pub host_response : (size command : ℕ) (w : Awaited) → said_end Host (end.Response size command) w ≡ saying (response_as command w) Ack size
+pub host_response : (size command : ℕ) (w : Awaited) → said_end Host (end.Response size command) w ≡ saying (response_as command w) (Some Ack) size
 host_response size command w = refl

@@ -1,10 +1,10 @@
 -- How what a stand-in says comes from what the host would say.
 -- Assumes nothing.
-use Rattle.std.specs.Prelude.{Bool, true, false}
+use Rattle.std.specs.Prelude.{Bool, true, false, Some}
 use Rattle.refusals.specs.Pick.{pick}
 use Rattle.report.specs.declared.Reception.{Reception}
 use Rattle.report.specs.declared.Reception.TheVariants as reception
-use Rattle.reception.specs.declared.said.Reply.TheVariants.{Can}
+use Rattle.hearing.specs.declared.hearing.Single.TheVariants.{Can}
 use Rattle.reception.specs.declared.said.Said.{Said}
 use Rattle.reception.specs.Said.{saying}
 
@@ -22,4 +22,4 @@ is_of_frame reception.Cancelled = false
 
 -- in place of frame and stray response
 abbrev pub in_place_of : Said → Said
-in_place_of q = pick (is_of_frame q.reception) (saying reception.Cancelled Can 0) q
+in_place_of q = pick (is_of_frame q.reception) (saying reception.Cancelled (Some Can) 0) q

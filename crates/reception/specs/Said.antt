@@ -1,7 +1,10 @@
 -- Section 4: what reception says of an event, the byte that it puts out, and how much it hands up.
 -- Assumes nothing.
-use Rattle.std.specs.Prelude.{ℕ, Bool, true, false, List, [], ◌∷◌, eqb}
+use Rattle.std.specs.Prelude.{ℕ, Bool, true, false, List, [], ◌∷◌, Option, Some, None, eqb}
 use Rattle.refusals.specs.Pick.{pick}
+use Rattle.hearing.specs.Hearing.{byte_of}
+use Rattle.hearing.specs.declared.hearing.Single.{Single}
+use Rattle.hearing.specs.declared.hearing.Single.TheVariants.{Ack, Nak, Can}
 use Rattle.hearing.specs.declared.hearing.End.{End}
 use Rattle.hearing.specs.declared.hearing.End.TheVariants as end
 use Rattle.hearing.specs.declared.hearing.Event.{Event}
@@ -12,18 +15,14 @@ use Rattle.report.specs.declared.Reception.{Reception}
 use Rattle.report.specs.declared.Reception.TheVariants as reception
 use Rattle.reception.specs.declared.said.Awaited.{Awaited}
 use Rattle.reception.specs.declared.said.Awaited.TheVariants as awaited
-use Rattle.reception.specs.declared.said.Reply.{Reply}
-use Rattle.reception.specs.declared.said.Reply.TheVariants.{Silent, Ack, Nak, Can}
 use Rattle.reception.specs.declared.said.Said.{Said}
-use Rattle.frame.specs.Frame.{ACK, NAK, CAN}
 
-abbrev pub reply_bytes : Reply → List ℕ
-reply_bytes Silent = []
-reply_bytes Ack = ACK ∷ []
-reply_bytes Nak = NAK ∷ []
-reply_bytes Can = CAN ∷ []
+-- The single byte that a reception or a restart puts out, before any copy: on the line it is 06, 15 or 18, or nothing.
+abbrev pub reply_bytes : Option Single → List ℕ
+reply_bytes None = []
+reply_bytes (Some s) = byte_of s ∷ []
 
-abbrev pub saying : Reception → Reply → ℕ → Said
+abbrev pub saying : Reception → Option Single → ℕ → Said
 saying r b n = record { reception = r; reply = b; up = n }
 
 -- A RES with the same Command, while the session waits for it.
@@ -45,22 +44,22 @@ cancels Module (awaited.Response wanted) = false
 
 -- Checksum right, Type 00 or 01: put out 06 and hand up the body; or, cancelled, put out 18, report cancelled and hand up nothing.
 abbrev pub said_frame : Bool → Reception → ℕ → Said
-said_frame cancelled r size = saying (pick cancelled reception.Cancelled r) (pick cancelled Can Ack) (pick cancelled 0 size)
+said_frame cancelled r size = saying (pick cancelled reception.Cancelled r) (Some (pick cancelled Can Ack)) (pick cancelled 0 size)
 
 -- Reserved types and wrong checksums know no cancelling.
 abbrev pub said_end : Role → End → Awaited → Said
-said_end role end.BadLength w = saying reception.BadLength Silent 0
-said_end role end.BadSum w = saying reception.BadSum Nak 0
-said_end role end.Reserved w = saying reception.Reserved Ack 0
+said_end role end.BadLength w = saying reception.BadLength None 0
+said_end role end.BadSum w = saying reception.BadSum (Some Nak) 0
+said_end role end.Reserved w = saying reception.Reserved (Some Ack) 0
 said_end role (end.Request size) w = said_frame (cancels role w) reception.Frame size
 said_end role (end.Response size command) w = said_frame (cancels role w) (response_as command w) size
 
 abbrev pub said_on : Role → Event → Awaited → Said
-said_on role Inside w = saying reception.Nothing Silent 0
-said_on role (Kept at) w = saying reception.Nothing Silent 0
-said_on role Skipped w = saying reception.Skipped Silent 0
-said_on role (Alone s) w = saying reception.Nothing Silent 0
+said_on role Inside w = saying reception.Nothing None 0
+said_on role (Kept at) w = saying reception.Nothing None 0
+said_on role Skipped w = saying reception.Skipped None 0
+said_on role (Alone s) w = saying reception.Nothing None 0
 said_on role (Ended e) w = said_end role e w
-said_on role TickHunting w = saying reception.Nothing Silent 0
-said_on role TickInside w = saying reception.Nothing Silent 0
-said_on role Aborted w = saying reception.Abort Silent 0
+said_on role TickHunting w = saying reception.Nothing None 0
+said_on role TickInside w = saying reception.Nothing None 0
+said_on role Aborted w = saying reception.Abort None 0

@@ -5,5 +5,5 @@
 mod said;
 mod sums;
 
-pub use said::{Awaited, Reply, Said, is_awaited, said_as_host, said_on};
+pub use said::{Awaited, Said, is_awaited, said_as_host, said_on};
 pub use sums::{Sums, sums_on};

@@ -6,22 +6,22 @@ use hearing::{End, Event};
 use report::Reset;
 
 // The run of bad sums after an event, and the reset that it gives.
-#[derive(Clone, Copy)]
+#[derive(Clone, Copy, Debug, PartialEq, Eq)]
 pub struct Sums {
     pub bad: u8,
     pub reset: Reset,
 }
 
+// By its place, for five uses in arms of one line.
+#[inline]
 fn run_of(bad: u8, reset: Reset) -> Sums
     ensures { result ≡ spec.run_of bad reset }
 {
-    Sums {
-        bad: bad,
-        reset: reset,
-    }
+    Sums { bad, reset }
 }
 
 // One bad sum more: the third indicates a reset.
+#[inline]
 fn one_bad_more(bad: u8) -> Sums
     ensures { result ≡ spec.one_bad_more bad }
 {
@@ -31,6 +31,7 @@ fn one_bad_more(bad: u8) -> Sums
     run_of(0, Reset::Sums)
 }
 
+#[inline]
 fn sums_end(end: End, bad: u8) -> Sums
     ensures { result ≡ spec.sums_end end bad }
 {
@@ -42,6 +43,7 @@ fn sums_end(end: End, bad: u8) -> Sums
 }
 
 // The run of bad sums after an event.
+#[inline]
 pub fn sums_on(event: Event, bad: u8) -> Sums
     ensures { result ≡ spec.sums_on event bad }
 {

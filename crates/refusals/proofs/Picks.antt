@@ -2,9 +2,12 @@
 -- Assumes nothing.
 use Prim.Native.Nat.{ℕ}
 use native.Mathlib.Omega.{arith}
-use mathlib.Core.Path.{◌≡◌, refl, ap}
+use mathlib.Core.Path.{◌≡◌, refl, sym, ap}
+use mathlib.Core.Logic.{◌↔◌}
 use mathlib.Core.Bool.{Bool, true, false}
+use Rattle.std.specs.Prelude.{Result, Ok, Err}
 use Rattle.refusals.specs.Pick.{pick}
+use Rattle.refusals.specs.declared.Refusal.{Refusal}
 
 -- not the second, so the first
 pub picked_first : {A : Type 0} (t : Bool) {x y z : A} → (y ≡ z → ⊥) → pick t x y ≡ z → (t ≡ true) × (x ≡ z)
@@ -38,3 +41,12 @@ pick_ok P x a b p q = pick_by P x a b (λ _. p) (λ _. q)
 -- tests one after the other that gave false: neither was met
 pub neither : (x y : Bool) → pick x true y ≡ false → (x ≡ false) × (y ≡ false)
 neither x y e = picked_second x no e
+
+-- a refusal is no answer
+pub err_not_ok : {A : Type 0} {k : Refusal} {x : A} → ◌≡◌ {A = Result A Refusal} (Err k) (Ok x) → ⊥
+err_not_ok e = let z : ◌≡◌ {A = ℕ} 0 1 = cc in omega arith
+
+-- a test that must hold, else this refusal: no other is given, and only where it does not hold
+pub refused_by : {A : Type 0} (t : Bool) (x : A) (j k : Refusal) → (pick t (Ok x) (Err j) ≡ Err k) ↔ ((t ≡ false) × (k ≡ j))
+refused_by true x j k = (λ e. absurd (err_not_ok (sym e)), λ e. absurd (no e.0))
+refused_by false x j k = (λ e. (refl, cc), λ e. ap Err (sym e.1))

@@ -1,5 +1,7 @@
 // The report (document 01, section 7): its types. One record of four parts, each a case with its own data, and beside them the
 // numbers of bytes. What each part says is decided where it happens, in `reception`, `job`, `sending` and `step`.
+// `Nothing` is a case of its own in each list of section 7, told by its place there: as `None` of an `Option` it would be no plainer.
+// So it is of `Reset` too, though `either` of `step` is then `or` by hand: `report_told` takes the place of any of them by `as`.
 #![tactic(auto)]
 
 mod told;
@@ -7,7 +9,7 @@ mod told;
 pub use told::report_told;
 use units::Millis;
 
-#[derive(Clone, Copy)]
+#[derive(Clone, Copy, Debug, PartialEq, Eq)]
 pub enum Reception {
     Nothing,
     Skipped,
@@ -21,7 +23,7 @@ pub enum Reception {
     Cancelled,
 }
 
-#[derive(Clone, Copy)]
+#[derive(Clone, Copy, Debug, PartialEq, Eq)]
 pub enum Sending {
     Nothing,
     Stray,
@@ -35,7 +37,7 @@ pub enum Sending {
     Abandoned,
 }
 
-#[derive(Clone, Copy)]
+#[derive(Clone, Copy, Debug, PartialEq, Eq)]
 pub enum Session {
     Nothing,
     Waiting,
@@ -46,14 +48,14 @@ pub enum Session {
     Abandoned,
 }
 
-#[derive(Clone, Copy)]
+#[derive(Clone, Copy, Debug, PartialEq, Eq)]
 pub enum Reset {
     Nothing,
     Sums,
     Delivery,
 }
 
-#[derive(Clone, Copy)]
+#[derive(Clone, Copy, Debug, PartialEq, Eq)]
 pub struct Report {
     pub reception: Reception,
     pub sending: Sending,

@@ -6,38 +6,38 @@ ghost use Rattle.std.specs.Prelude.{◌≡◌};
 ghost use Rattle.rules.specs.Rules.{is_module, usual};
 
 // Which end of the line a link is: the host, or the stand-in for a module.
-#[derive(Clone, Copy)]
+#[derive(Clone, Copy, Debug, PartialEq, Eq)]
 pub enum Role {
     Host,
     Module,
 }
 
-// Whether it is the stand-in.
-pub fn is_module(role: Role) -> bool
-    ensures { result ≡ is_module role }
-{
-    match role {
-        Role::Host => false,
-        Role::Module => true,
+impl Role {
+    // Whether it is the stand-in.
+    #[inline]
+    pub fn is_module(self) -> bool
+        ensures { result ≡ is_module self }
+    {
+        matches!(self, Role::Module)
     }
 }
 
 // How a copy that was lost in silence is repeated (document 02, P4): sooner, or spaced as document 01 has it.
-#[derive(Clone, Copy)]
+#[derive(Clone, Copy, Debug, PartialEq, Eq)]
 pub enum Mode {
     Sooner,
     Spaced,
 }
 
 // Why a copy is given up: 15 or 18 came, or its wait ran out.
-#[derive(Clone, Copy)]
+#[derive(Clone, Copy, Debug, PartialEq, Eq)]
 pub enum Cause {
     Told,
     Time,
 }
 
 // What opening chooses, and every call keeps; a restart too.
-#[derive(Clone, Copy)]
+#[derive(Clone, Copy, Debug, PartialEq, Eq)]
 pub struct Choice {
     pub role: Role,
     pub mode: Mode,
@@ -48,11 +48,9 @@ impl Choice {
     pub fn usual() -> Self
         ensures { result ≡ usual }
     {
-        let role = Role::Host;
-        let mode = Mode::Sooner;
         Choice {
-            role: role,
-            mode: mode,
+            role: Role::Host,
+            mode: Mode::Sooner,
         }
     }
 }

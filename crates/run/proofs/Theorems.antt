@@ -4,14 +4,13 @@
 use mathlib.Core.Path.{◌≡◌, ap}
 use mathlib.Core.List.{List}
 use Prim.Native.Nat.{ℕ}
-use lib.ListN.{length}
 use Rattle.refusals.proofs.Theorems.{fixed}
 use Rattle.hearing.specs.declared.hearing.Hearing.{Hearing}
 use Rattle.run.specs.declared.run.Reach.{Reach}
 use Rattle.run.specs.Promises.{Far, gone, HearRun}
 
 pub hear_run_determined : {before : Hearing} {bytes body : List ℕ} {r q : Reach} {a b : List ℕ}
-    → length body ≡ 254 → (length body ≡ 254 → HearRun before bytes body r a) → (length body ≡ 254 → HearRun before bytes body q b) → (r ≡ q) × (a ≡ b)
-hear_run_determined n x y =
-    let e = fixed (x n).all (y n).all in
+    → HearRun before bytes body r a → HearRun before bytes body q b → (r ≡ q) × (a ≡ b)
+hear_run_determined x y =
+    let e = fixed x.all y.all in
     (ap (λ (f : Far). gone f.heard f.taken) e, ap (λ (f : Far). f.body) e)

@@ -8,10 +8,10 @@ use mathlib.Core.Path.{◌≡◌, refl, sym, ap, ◌∙◌}
 use mathlib.Core.Bool.{Bool, true, false}
 use mathlib.Core.List.{List, [], ◌∷◌, ◌++◌}
 use Prim.Native.Nat.{ℕ, zero, suc, ◌+◌, ◌-◌, ◌≤◌, ◌<◌, min}
-use native.Mathlib.Nat.{add-suc, add-zero, suc-add, not-suc-le-zero, le_of_suc-le-suc}
+use native.Mathlib.Nat.{add-suc, add-zero, zero-add, suc-add, not-suc-le-zero}
 use native.Mathlib.Numerals.{add-one}
 use native.Mathlib.Omega.{arith}
-use borrow.Author.Tests.{lt-ltb, le-ltb, ne_eqb, ltb-true, ltb-false, eq-eqb}
+use borrow.Author.Tests.{lt-ltb, le-ltb, ne_eqb, eq-eqb}
 use lib.Bits.{bit_xor}
 use lib.Dec.{ltb, eqb}
 use lib.ListN.{length, take, drop, set, get_or, drop_of_length-le, take-append-drop, length-drop}
@@ -169,29 +169,42 @@ hunts_head bytes r c e n z body h one x =
     record { same = s.same ∙ t.same }
 
 -- ---- in a body
-pub kept_more : (body : List ℕ) (at : ℕ) (s : List ℕ) (j : ℕ) → j < length s → kept body at (drop j s) ≡ kept (set body at (get_or s j 0)) (at + 1) (drop (j + 1) s)
-unfolding kept
-kept_more body at s j h =
-    ap (λ (l : List ℕ). kept body at l) (drop-cons s j 0 h)
-    ∙ ap (λ (k : ℕ). kept (set body at (get_or s j 0)) (at + 1) (drop k s)) (sym (add-one j))
-
 kept_past : (body : List ℕ) (at : ℕ) (s : List ℕ) → length body ≤ at → kept body at s ≡ body
 unfolding kept
 kept_past body at [] h = refl
 kept_past body at (b ∷ s) h = ap (λ (l : List ℕ). kept l (at + 1) s) (set_out body at b h) ∙ kept_past body (at + 1) s (omega arith)
 
-kept_none : (body : List ℕ) (at : ℕ) (s : List ℕ) → length s ≤ 0 → kept body at s ≡ body
+-- the first byte of the body stays where bytes are kept behind it
+kept_under : (x : ℕ) (body : List ℕ) (at : ℕ) (s : List ℕ) → kept (x ∷ body) (suc at) s ≡ x ∷ kept body at s
 unfolding kept
-kept_none body at [] h = refl
-kept_none body at (b ∷ s) h = absurd (not-suc-le-zero h)
+kept_under x body at [] = refl
+kept_under x body at (b ∷ s) =
+    let e : suc at + 1 ≡ suc (at + 1) = omega arith in
+    ap (λ (k : ℕ). kept (x ∷ set body at b) k s) e ∙ kept_under x (set body at b) (at + 1) s
 
--- all are kept that have room
-rest_by : (body : List ℕ) (at : ℕ) (s : List ℕ) (n : ℕ) (x : Bool) → n ≡ min (length s) (length body - at) → ltb n (length s) ≡ x → kept body (at + n) (drop n s) ≡ body
-rest_by body at s n true e t = kept_past body (at + n) (drop n s) (omega (arith, e, ltb-true n (length s) t))
-rest_by body at s n false e t = kept_none body (at + n) (drop n s) (simp length-drop (omega (arith, ltb-false n (length s) t)))
+laid : (body s : List ℕ) (at first n : ℕ) → first ≡ min (length body) at → n ≡ min (length s) (length body - first)
+    → take first body ++ (take n s ++ drop (first + n) body) ≡ kept body at s
+unfolding kept
+laid [] s at first n e f =
+    let z : first ≡ 0 = omega (arith, e) in
+    let o : n ≡ 0 = omega (arith, f) in
+    simp (z, o) (sym (kept_past [] at s (omega arith)))
+laid (x ∷ body) s (suc at) zero n e f = let bad : 1 ≤ 0 = omega (arith, e) in absurd (not-suc-le-zero bad)
+laid (x ∷ body) s (suc at) (suc first) n e f =
+    let d : suc first + n ≡ suc (first + n) = omega arith in
+    rw d (ap (λ (l : List ℕ). x ∷ l) (laid body s at first n (omega (arith, e)) (omega (arith, f))) ∙ sym (kept_under x body at s))
+laid (x ∷ body) [] zero zero zero e f = refl
+laid (x ∷ body) [] zero zero (suc n) e f = let bad : 1 ≤ 0 = omega (arith, f) in absurd (not-suc-le-zero bad)
+laid (x ∷ body) (b ∷ s) zero zero zero e f = let bad : 1 ≤ 0 = omega (arith, f) in absurd (not-suc-le-zero bad)
+laid (x ∷ body) (b ∷ s) zero zero (suc n) e f =
+    let ih = laid body s 0 0 n (omega arith) (omega (arith, f)) in
+    simp zero-add (ap (λ (l : List ℕ). b ∷ l) (simp zero-add at ih) ∙ sym (kept_under b body 0 s))
+laid (x ∷ body) s zero (suc first) n e f = let bad : 1 ≤ 0 = omega (arith, e) in absurd (not-suc-le-zero bad)
 
-pub kept_rest : (body : List ℕ) (at : ℕ) (s : List ℕ) (n : ℕ) → n ≡ min (length s) (length body - at) → kept body (at + n) (drop n s) ≡ body
-kept_rest body at s n e = rest_by body at s n (ltb n (length s)) e refl
+-- all are kept that have room, in one copy
+pub kept_is : (body s : List ℕ) (at first n : ℕ) → first ≡ min 254 at → length body ≡ 254 → n ≡ min (length s) (254 - first)
+    → take first body ++ (take n s ++ drop (first + n) body) ≡ kept body at s
+kept_is body s at first n e l f = laid body s at first n (e ∙ ap (λ (k : ℕ). min k at) (sym l)) (f ∙ ap (λ (k : ℕ). min (length s) (k - first)) (sym l))
 
 -- Type and Command are the body's first two bytes
 kind_on : (at b kind : ℕ) (bs : List ℕ) → picked (at + 1) 0 bs (pick (eqb at 0) b kind) ≡ picked at 0 (b ∷ bs) kind
@@ -330,13 +343,10 @@ module _ (bytes : List ℕ) (r : Reach) (p : Partial) (c : Quiet bytes r) (e : r
         ∙ ap (λ (l : List ℕ). on_from (record { heard = followed next f; body = l; taken = i + n + 1 }) bytes) k in
         record { same = s ∙ ap (λ (q : Reach). on_from (far q body') bytes) (sym w) }
 
--- what is read of s where it is there
-pub get_or_in : (s : List ℕ) (k d : ℕ) → k < length s → get_or s k d ≡ get_or s k 0
-get_or_in [] k d h = absurd (not-suc-le-zero h)
-get_or_in (b ∷ s) zero d h = refl
-get_or_in (b ∷ s) (suc k) d h = get_or_in s k d (le_of_suc-le-suc h)
-
-pub get_or_out : (s : List ℕ) (k d : ℕ) → length s ≤ k → get_or s k d ≡ d
-get_or_out [] k d h = refl
-get_or_out (b ∷ s) zero d h = absurd (not-suc-le-zero h)
-get_or_out (b ∷ s) (suc k) d h = get_or_out s k d (le_of_suc-le-suc h)
+-- what the walk over the n bytes from place i on leaves
+pub walked_here : (bs body : List ℕ) (p : Partial) (i n : ℕ) {next : Partial} {body' : List ℕ}
+    → (next ≡ walked p (take (i + n - i) (drop i bs))) × (body' ≡ kept body p.at (take (i + n - i) (drop i bs)))
+    → (next ≡ walked p (take n (drop i bs))) × (body' ≡ kept body p.at (take n (drop i bs)))
+walked_here bs body p i n w =
+    let e : i + n - i ≡ n = omega arith in
+    (w.0 ∙ ap (λ (m : ℕ). walked p (take m (drop i bs))) e, w.1 ∙ ap (λ (m : ℕ). kept body p.at (take m (drop i bs))) e)

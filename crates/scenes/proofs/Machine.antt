@@ -1,5 +1,6 @@
 -- The machine on one page: every row of both tables computes, and what a row shows of one number holds of all on its side of the edge.
 -- Assumes nothing.
+use Rattle.std.specs.Prelude.{Option, Some}
 use Prim.Native.Nat.{ℕ, ◌+◌, ◌-◌, ◌≤◌, ◌<◌}
 use mathlib.Core.Path.{◌≡◌, refl}
 use mathlib.Core.Bool.{Bool, true, false}
@@ -21,20 +22,19 @@ use Rattle.report.specs.declared.Reception.TheVariants as reception
 use Rattle.reception.specs.Said.{saying, said_on}
 use Rattle.reception.specs.declared.said.Awaited.{Awaited}
 use Rattle.reception.specs.declared.said.Awaited.TheVariants as awaited
-use Rattle.reception.specs.declared.said.Reply.TheVariants as reply
 use Rattle.job.specs.Job.{next_copy, still}
 use Rattle.job.specs.Ticks.{on_tick}
-use Rattle.job.specs.declared.job.Asking.{Asking}
 use Rattle.job.specs.declared.job.Job.TheVariants.{Waiting, BackingOff, Awaiting}
 use Rattle.sending.specs.Events.{respond, on_event}
 use Rattle.link.specs.Out.{restart_out}
 use Rattle.scenes.specs.Machine.{AllRows, AllHear, idle_rows, due_rows, waiting_rows, sooner_rows, spaced_rows, backing_off_rows, awaiting_rows, hunting_rows, head_rows, body_rows, frame_rows, cancel_rows, end_rows, JobTable, HearingTable, Starts}
+use Rattle.hearing.specs.declared.hearing.Single.TheVariants as single
 
 -- ---- the rows
-idle_rows_lem : (o : Choice) (size : ℕ) (a : Asking) (at k f : ℕ) → AllRows o size (idle_rows a at k f)
+idle_rows_lem : (o : Choice) (size : ℕ) (a : Option ℕ) (at k f : ℕ) → AllRows o size (idle_rows a at k f)
 idle_rows_lem o size a at k f = (refl, (refl, (refl, (refl, (refl, (refl, (refl, (refl, (refl, (refl, (refl, (refl, (refl, (refl, (refl, (refl, (refl, tt)))))))))))))))))
 
-due_rows_lem : (o : Choice) (size : ℕ) (a b : Asking) (c n at k f : ℕ) (hunting : Bool) → AllRows o size (due_rows a b c n at k f hunting)
+due_rows_lem : (o : Choice) (size : ℕ) (a b : Option ℕ) (c n at k f : ℕ) (hunting : Bool) → AllRows o size (due_rows a b c n at k f hunting)
 due_rows_lem o size a b c n at k f hunting = (refl, (refl, (refl, (refl, (refl, (refl, (refl, (refl, (refl, (refl, (refl, (refl, (refl, (refl, (refl, (refl, (refl, (refl, (refl, (refl, (refl, tt)))))))))))))))))))))
 
 -- the tick that makes the wait 1,600 and the time on the wire, and the one before it
@@ -47,22 +47,22 @@ waits_then size = lt-ltb (1_598 + wire_time size + 1) (1_600 + wire_time size) (
 counted : (size : ℕ) → 1_598 + wire_time size + 1 ≡ 1_599 + wire_time size
 counted size = omega arith
 
-waiting_rows_lem : (o : Choice) (size : ℕ) (a b : Asking) (c n e at k f : ℕ) (hunting : Bool) → AllRows o size (waiting_rows (wire_time size) a b c n e at k f hunting)
+waiting_rows_lem : (o : Choice) (size : ℕ) (a b : Option ℕ) (c n e at k f : ℕ) (hunting : Bool) → AllRows o size (waiting_rows (wire_time size) a b c n e at k f hunting)
 waiting_rows_lem o size a b c n e at k f hunting = (refl, (refl, (refl, (refl, (refl, (refl, (refl, (refl, (refl, (refl, (rw (lost_then size), (rw (lost_then size), (rw (lost_then size), (refl, (refl, (rw (lost_then size), (rw (lost_then size), (rw (lost_then size), (rw (waits_then size, counted size), (rw (waits_then size, counted size), (rw (waits_then size, counted size), (refl, (refl, (refl, (refl, (refl, (refl, (refl, (refl, (refl, (refl, (refl, tt))))))))))))))))))))))))))))))))
 
-sooner_rows_lem : (role : Role) (size : ℕ) (a : Asking) → AllRows (record { role = role; mode = Sooner }) size (sooner_rows (wire_time size) a)
+sooner_rows_lem : (role : Role) (size : ℕ) (a : Option ℕ) → AllRows (record { role = role; mode = Sooner }) size (sooner_rows (wire_time size) a)
 sooner_rows_lem role size a = (rw (lost_then size), (rw (lost_then size), (rw (lost_then size), (rw (lost_then size), (rw (lost_then size), (rw (lost_then size), (rw (lost_then size), (rw (lost_then size), (rw (lost_then size), tt)))))))))
 
-spaced_rows_lem : (role : Role) (size : ℕ) (a : Asking) → AllRows (record { role = role; mode = Spaced }) size (spaced_rows (wire_time size) a)
+spaced_rows_lem : (role : Role) (size : ℕ) (a : Option ℕ) → AllRows (record { role = role; mode = Spaced }) size (spaced_rows (wire_time size) a)
 spaced_rows_lem role size a = (rw (lost_then size), (rw (lost_then size), (rw (lost_then size), (rw (lost_then size), (rw (lost_then size), (rw (lost_then size), (rw (lost_then size), (rw (lost_then size), (rw (lost_then size), tt)))))))))
 
-backing_off_rows_lem : (o : Choice) (size : ℕ) (a b : Asking) (c n l at k f : ℕ) (hunting : Bool) → AllRows o size (backing_off_rows a b c n l at k f hunting)
+backing_off_rows_lem : (o : Choice) (size : ℕ) (a b : Option ℕ) (c n l at k f : ℕ) (hunting : Bool) → AllRows o size (backing_off_rows a b c n l at k f hunting)
 backing_off_rows_lem o size a b c n l at k f hunting = (refl, (refl, (refl, (refl, (refl, (refl, (refl, (refl, (refl, (refl, (refl, (refl, (refl, (refl, (refl, (refl, (refl, (refl, (refl, (refl, (refl, (refl, (refl, tt)))))))))))))))))))))))
 
-awaiting_rows_lem : (o : Choice) (size : ℕ) (b : Asking) (c n e at k : ℕ) (hunting : Bool) → AllRows o size (awaiting_rows b c n e at k hunting)
+awaiting_rows_lem : (o : Choice) (size : ℕ) (b : Option ℕ) (c n e at k : ℕ) (hunting : Bool) → AllRows o size (awaiting_rows b c n e at k hunting)
 awaiting_rows_lem o size b c n e at k hunting = (refl, (refl, (refl, (refl, (refl, (refl, (refl, (refl, (refl, (refl, (refl, (refl, (refl, (refl, (refl, (refl, (refl, (refl, (refl, (refl, tt))))))))))))))))))))
 
-pub job_table : (o : Choice) (size : ℕ) (a b : Asking) (c n e l at k f : ℕ) (hunting : Bool) → JobTable o size a b c n e l at k f hunting
+pub job_table : (o : Choice) (size : ℕ) (a b : Option ℕ) (c n e l at k f : ℕ) (hunting : Bool) → JobTable o size a b c n e l at k f hunting
 job_table o size a b c n e l at k f hunting =
     (idle_rows_lem o size a at k f, (due_rows_lem o size a b c n at k f hunting, (waiting_rows_lem o size a b c n e at k f hunting, (sooner_rows_lem o.role size a, (spaced_rows_lem o.role size a, (backing_off_rows_lem o size a b c n l at k f hunting, awaiting_rows_lem o size b c n e at k hunting))))))
 
@@ -107,10 +107,10 @@ pub copy_next : (n : ℕ) → n < 4 → next_copy n ≡ n + 1
 copy_next n h = rw (lt-ltb n 4 h)
 
 -- "a tick up to": it counts, and does nothing else; an abort is a tick while hunting
-pub wait_counts : (o : Choice) (size : ℕ) (hunting : Bool) (a : Asking) (n e : ℕ) → e + 1 < 1_600 + wire_time size → on_tick (rules_of o) size hunting (Waiting a n e) ≡ still (Waiting a n (e + 1))
+pub wait_counts : (o : Choice) (size : ℕ) (hunting : Bool) (a : Option ℕ) (n e : ℕ) → e + 1 < 1_600 + wire_time size → on_tick (rules_of o) size hunting (Waiting a n e) ≡ still (Waiting a n (e + 1))
 wait_counts o size hunting a n e h = rw (lt-ltb (e + 1) (1_600 + wire_time size) h)
 
-pub back_off_counts : (o : Choice) (size : ℕ) (hunting : Bool) (a : Asking) (n l : ℕ) → 1 < l → on_tick (rules_of o) size hunting (BackingOff a n l) ≡ still (BackingOff a n (l - 1))
+pub back_off_counts : (o : Choice) (size : ℕ) (hunting : Bool) (a : Option ℕ) (n l : ℕ) → 1 < l → on_tick (rules_of o) size hunting (BackingOff a n l) ≡ still (BackingOff a n (l - 1))
 back_off_counts o size hunting a n l h = rw (lt-ltb 1 l h)
 
 pub response_counts : (o : Choice) (size : ℕ) (hunting : Bool) (c n e : ℕ) → e + 1 < 5_000 → on_tick (rules_of o) size hunting (Awaiting c n e) ≡ still (Awaiting c n (e + 1))
@@ -153,21 +153,21 @@ pub type_reserved : (p : Partial) → RES < p.kind → ended p ≡ Reserved
 type_reserved p h = rw (ne_eqb p.kind 0 (λ z. omega arith), ne_eqb p.kind 1 (λ z. omega arith))
 
 -- "awaited", "not awaited"
-pub awaited_frame : (role : Role) (k c : ℕ) → said_on role (Ended (Response k c)) (awaited.Response c) ≡ saying reception.Frame reply.Ack k
+pub awaited_frame : (role : Role) (k c : ℕ) → said_on role (Ended (Response k c)) (awaited.Response c) ≡ saying reception.Frame (Some single.Ack) k
 awaited_frame Host k c = rw (eq-eqb c c refl)
 awaited_frame Module k c = rw (eq-eqb c c refl)
 
-pub not_awaited_stray : (role : Role) (k f c : ℕ) → (f ≡ c → ⊥) → said_on role (Ended (Response k f)) (awaited.Response c) ≡ saying reception.StrayResponse reply.Ack k
+pub not_awaited_stray : (role : Role) (k f c : ℕ) → (f ≡ c → ⊥) → said_on role (Ended (Response k f)) (awaited.Response c) ≡ saying reception.StrayResponse (Some single.Ack) k
 not_awaited_stray Host k f c h = rw (ne_eqb f c h)
 not_awaited_stray Module k f c h = rw (ne_eqb f c h)
 
 -- the host that awaits an ACK hands up as ever: a response is then stray
-pub ack_awaited_stray : (k f : ℕ) → said_on Host (Ended (Response k f)) awaited.Ack ≡ saying reception.StrayResponse reply.Ack k
+pub ack_awaited_stray : (k f : ℕ) → said_on Host (Ended (Response k f)) awaited.Ack ≡ saying reception.StrayResponse (Some single.Ack) k
 ack_awaited_stray k f = refl
 
 -- "of a stand-in that awaits its ACK": any size and any Command
-pub request_cancelled : (k : ℕ) → said_on Module (Ended (Request k)) awaited.Ack ≡ saying reception.Cancelled reply.Can 0
+pub request_cancelled : (k : ℕ) → said_on Module (Ended (Request k)) awaited.Ack ≡ saying reception.Cancelled (Some single.Can) 0
 request_cancelled k = refl
 
-pub response_cancelled : (k f : ℕ) → said_on Module (Ended (Response k f)) awaited.Ack ≡ saying reception.Cancelled reply.Can 0
+pub response_cancelled : (k f : ℕ) → said_on Module (Ended (Response k f)) awaited.Ack ≡ saying reception.Cancelled (Some single.Can) 0
 response_cancelled k f = refl

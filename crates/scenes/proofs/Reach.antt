@@ -1,5 +1,6 @@
 -- The bounds of demand 3 reached by every send and every session: many ticks at once, whatever the frame's bytes are.
 -- Assumes nothing.
+use Rattle.std.specs.Prelude.{None, Option, Some}
 use Prim.Native.Nat.{ℕ, zero, suc, ◌+◌, ◌-◌, ◌≤◌, ◌<◌}
 use mathlib.Core.Path.{◌≡◌, refl, ap, ap₂, sym, ◌∙◌, subst}
 use mathlib.Core.Bool.{true, false}
@@ -33,8 +34,6 @@ use Rattle.hearing.specs.declared.hearing.Event.{Event}
 use Rattle.hearing.specs.declared.hearing.Event.TheVariants.{Alone, TickHunting, TickInside, Aborted}
 use Rattle.hearing.specs.declared.hearing.Single.TheVariants.{Nak}
 use Rattle.job.specs.declared.job.Act.{Act}
-use Rattle.job.specs.declared.job.Asking.{Asking}
-use Rattle.job.specs.declared.job.Asking.TheVariants.{Plain, Asks}
 use Rattle.job.specs.declared.job.Job.{Job}
 use Rattle.job.specs.declared.job.Job.TheVariants.{Due, Waiting, BackingOff, Awaiting}
 use Rattle.report.specs.declared.Reset.TheVariants as reset
@@ -62,7 +61,7 @@ add_add t u l m (going v n) = ap₂ going (sym (add_assoc t u v)) (sym (append_a
 add_add t u l m restarted_first = refl
 add_add t u l m (settled x v n) = ap₂ (settled x) (sym (add_assoc t u v)) (sym (append_assoc l m n))
 
-module _ (R : Rules) (a : Asking) (f : List ℕ) where
+module _ (R : Rules) (a : Option ℕ) (f : List ℕ) where
   -- a link that holds the frame f
   abbrev at : Hearing → Job → Link
   at h j = record { core = record { hearing = h; job = j; bad = 0; size = length f; choice = R.choice }; body = no_body; frame = over f no_frame }
@@ -240,16 +239,16 @@ module _ (R : Rules) (a : Asking) (f : List ℕ) where
 
 -- ---- the verdicts
 fails : (R : Rules) (f : List ℕ) (e : ℕ) → suc e ≡ R.wait (length f)
-    → Leads R Plain f (at R Plain f Hunting (Waiting Plain 4 e)) (lent tick ∷ []) (over_with R Plain f (failed 4)) 1 []
+    → Leads R None f (at R None f Hunting (Waiting None 4 e)) (lent tick ∷ []) (over_with R None f (failed 4)) 1 []
 unfolding tick_out
 fails R f e h =
-    let p : on_tick R (length f) true (Waiting Plain 4 e) ≡ fail Plain 4 = rw (add-one e, le-ltb (suc e) (R.wait (length f)) (omega arith)) in
-    tick_ended R Plain f _ (gives R Plain f Hunting TickHunting (Waiting Plain 4 e) (fail Plain 4)) (failed 4)
-    (ap (gives R Plain f Hunting TickHunting (Waiting Plain 4 e)) p) refl refl
+    let p : on_tick R (length f) true (Waiting None 4 e) ≡ fail None 4 = rw (add-one e, le-ltb (suc e) (R.wait (length f)) (omega arith)) in
+    tick_ended R None f _ (gives R None f Hunting TickHunting (Waiting None 4 e) (fail None 4)) (failed 4)
+    (ap (gives R None f Hunting TickHunting (Waiting None 4 e)) p) refl refl
 
 -- 06: the session waits for the response
 acknowledged : (R : Rules) (c : ℕ) (f : List ℕ) (n e : ℕ)
-    → Leads R (Asks c) f (at R (Asks c) f Hunting (Waiting (Asks c) n e)) (lent (byte ACK) ∷ []) (going_on R (Asks c) f (at R (Asks c) f Hunting (Awaiting c n 0))) 0 []
+    → Leads R (Some c) f (at R (Some c) f Hunting (Waiting (Some c) n e)) (lent (byte ACK) ∷ []) (going_on R (Some c) f (at R (Some c) f Hunting (Awaiting c n 0))) 0 []
 unfolding byte_out
 acknowledged R c f n e = record { to = λ k. refl }
 
@@ -257,33 +256,33 @@ awaiting : (R : Rules) (c size n e : ℕ) → suc e < 5000 → on_tick R size tr
 awaiting R c size n e h = rw (add-one e, lt-ltb (suc e) 5000 h)
 
 no_response_lem : (R : Rules) (c : ℕ) (f : List ℕ) (n : ℕ)
-    → Leads R (Asks c) f (at R (Asks c) f Hunting (Awaiting c n 0)) (silence 5000) (over_with R (Asks c) f (no_response n)) 5000 []
+    → Leads R (Some c) f (at R (Some c) f Hunting (Awaiting c n 0)) (silence 5000) (over_with R (Some c) f (no_response n)) 5000 []
 unfolding tick_out
 no_response_lem R c f n =
-    quiet_then R (Asks c) f (λ i. at R (Asks c) f Hunting (Awaiting c n i)) (over_with R (Asks c) f (no_response n)) [] 4999
-    (λ i h. hunting R (Asks c) f _ _ sending.Nothing (awaiting R c (length f) n i (omega arith)) refl)
-    (tick_ended R (Asks c) f _ _ (no_response n) refl refl refl)
+    quiet_then R (Some c) f (λ i. at R (Some c) f Hunting (Awaiting c n i)) (over_with R (Some c) f (no_response n)) [] 4999
+    (λ i h. hunting R (Some c) f _ _ sending.Nothing (awaiting R c (length f) n i (omega arith)) refl)
+    (tick_ended R (Some c) f _ _ (no_response n) refl refl refl)
 
 -- ---- every send and every session, for any rules with waits and with back-offs for this cause
 module _ (R : Rules) (cause : Cause) (backs : (n : ℕ) → 0 < R.back cause n) where
   pub send_reaches : (kind command : ℕ) (ps : List ℕ) → kind ≤ RES → length ps ≤ MAX_PARAMETERS → 0 < R.wait (length (frame_of kind command ps))
-      → Reaches R before (send kind command ps) Plain (longest_send R cause (length (frame_of kind command ps))) (frame_of kind command ps) (failed 4) (send_time R cause (length (frame_of kind command ps)))
+      → Reaches R before (send kind command ps) None (longest_send R cause (length (frame_of kind command ps))) (frame_of kind command ps) (failed 4) (send_time R cause (length (frame_of kind command ps)))
   unfolding byte_out open_out
   send_reaches kind command ps k n some =
       let f = frame_of kind command ps in
       record {
-        gave = open_out (after R before) Plain f;
+        gave = open_out (after R before) None f;
         accepted = rw (le-ltb 1 kind k, le-ltb 252 (length ps) n);
-        verdict = finish R Plain f (f ++ (f ++ (f ++ f))) (then R Plain f (fourth_leads R Plain f cause some backs) (wait_then R Plain f 4 _ some (fails R f _ (omega arith))));
+        verdict = finish R None f (f ++ (f ++ (f ++ f))) (then R None f (fourth_leads R None f cause some backs) (wait_then R None f 4 _ some (fails R f _ (omega arith))));
       }
 
   pub session_reaches : (command : ℕ) (ps : List ℕ) → length ps ≤ MAX_PARAMETERS → 0 < R.wait (length (frame_of REQ command ps))
-      → Reaches R before (session_call command ps) (Asks command) (longest_session R cause (length (frame_of REQ command ps))) (frame_of REQ command ps) (no_response 4)
+      → Reaches R before (session_call command ps) (Some command) (longest_session R cause (length (frame_of REQ command ps))) (frame_of REQ command ps) (no_response 4)
       (session_time R cause (length (frame_of REQ command ps)))
   unfolding byte_out open_out
   session_reaches command ps n some =
       let f = frame_of REQ command ps in
-      let a : Asking = Asks command in
+      let a : Option ℕ = Some command in
       record {
         gave = open_out (after R before) a f;
         accepted = rw (le-ltb 252 (length ps) n);
@@ -342,20 +341,20 @@ session_time_lem c size = by c.mode
 
 -- Every send reaches its bound: failed, 4 copies, on exactly that accepted tick.
 pub every_send_reaches : (c : Choice) (kind command : ℕ) (ps : List ℕ) → kind ≤ RES → length ps ≤ MAX_PARAMETERS
-    → Reaches (rules_of c) before (send kind command ps) Plain (longest_send (rules_of c) (longer c.mode) (length (frame_of kind command ps))) (frame_of kind command ps) (failed 4)
+    → Reaches (rules_of c) before (send kind command ps) None (longest_send (rules_of c) (longer c.mode) (length (frame_of kind command ps))) (frame_of kind command ps) (failed 4)
     (send_bound c.mode (length (frame_of kind command ps)))
 every_send_reaches c kind command ps k n =
     let f = frame_of kind command ps in
-    subst (Reaches (rules_of c) before (send kind command ps) Plain (longest_send (rules_of c) (longer c.mode) (length f)) f (failed 4))
+    subst (Reaches (rules_of c) before (send kind command ps) None (longest_send (rules_of c) (longer c.mode) (length f)) f (failed 4))
     (send_time_lem c (length f)) (send_reaches (rules_of c) (longer c.mode) (rules_back c) kind command ps k n (omega arith))
 
 -- Every session reaches its bound: no response, 4 copies, on exactly that accepted tick.
 pub every_session_reaches : (c : Choice) (command : ℕ) (ps : List ℕ) → length ps ≤ MAX_PARAMETERS
-    → Reaches (rules_of c) before (session_call command ps) (Asks command) (longest_session (rules_of c) (longer c.mode) (length (frame_of REQ command ps))) (frame_of REQ command ps) (no_response 4)
+    → Reaches (rules_of c) before (session_call command ps) (Some command) (longest_session (rules_of c) (longer c.mode) (length (frame_of REQ command ps))) (frame_of REQ command ps) (no_response 4)
     (session_bound c.mode (length (frame_of REQ command ps)))
 every_session_reaches c command ps n =
     let f = frame_of REQ command ps in
-    subst (Reaches (rules_of c) before (session_call command ps) (Asks command) (longest_session (rules_of c) (longer c.mode) (length f)) f (no_response 4))
+    subst (Reaches (rules_of c) before (session_call command ps) (Some command) (longest_session (rules_of c) (longer c.mode) (length f)) f (no_response 4))
     (session_time_lem c (length f)) (session_reaches (rules_of c) (longer c.mode) (rules_back c) command ps n (omega arith))
 
 -- ---- So demand 3 holds with no smaller bound, of either end, in either mode, for any length that a frame has.
@@ -374,7 +373,7 @@ send_bound_least c b d size low high =
     let f = frame_of REQ 0x07 (zeros size) in
     let r = every_send_reaches c REQ 0x07 (zeros size) (omega arith) (zeros_few size high) in
     subst (λ (n : ℕ). send_bound c.mode n ≤ b n) (zeros_make size low)
-    (subst (Kept Plain f (b (length f))) r.verdict
+    (subst (Kept None f (b (length f))) r.verdict
     (d before (longest_send (rules_of c) (longer c.mode) (length f)) 258 254 REQ 0x07 (zeros size) r.gave r.accepted).kept).soon
 
 pub session_bound_least : (c : Choice) (b : ℕ → ℕ) → EverySession (rules_of c) b → (size : ℕ) → 5 ≤ size → size ≤ MAX_FRAME → session_bound c.mode size ≤ b size
@@ -382,5 +381,5 @@ session_bound_least c b d size low high =
     let f = frame_of REQ 0x07 (zeros size) in
     let r = every_session_reaches c 0x07 (zeros size) (zeros_few size high) in
     subst (λ (n : ℕ). session_bound c.mode n ≤ b n) (zeros_make size low)
-    (subst (Kept (Asks 0x07) f (b (length f))) r.verdict
+    (subst (Kept (Some 0x07) f (b (length f))) r.verdict
     (d before (longest_session (rules_of c) (longer c.mode) (length f)) 258 254 0x07 (zeros size) r.gave r.accepted).kept).soon

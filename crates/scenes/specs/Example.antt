@@ -1,11 +1,11 @@
 -- An example: a question to the definitions, and the answer that the document prints.
 -- Assumes nothing.
-use Rattle.std.specs.Prelude.{ℕ, ◌≡◌, List, [], ◌∷◌, length}
+use Rattle.std.specs.Prelude.{ℕ, ◌≡◌, List, [], ◌∷◌, length, Result}
 use Rattle.frame.specs.Frame.{frame_of, REQ}
 use Rattle.frame.specs.Builder as builder
-use Rattle.frame.specs.declared.builder.Built.{Built}
+use Rattle.refusals.specs.declared.Refusal.{Refusal}
 use Rattle.reading.specs.Reader as reader
-use Rattle.reading.specs.declared.reader.Reading.{Reading}
+use Rattle.reading.specs.declared.reader.Parts.{Parts}
 use Rattle.units.specs.Units.{ticks_of}
 use Rattle.units.specs.declared.Millis.{Millis}
 use Rattle.rules.specs.Rules.{usual, spaced, stand_in, rules_of}
@@ -40,9 +40,9 @@ play_stand_in = play_as stand_in
 
 pub data Answer : Type 0 where
   -- what is answered, and the lent bytes after it
-  built : Built → (left : List ℕ) → Answer
-  reading : Reading → Answer
-  listed : NodeList → (left : List ℕ) → Answer
+  built : Result ℕ Refusal → (left : List ℕ) → Answer
+  reading : Result Parts Refusal → Answer
+  listed : Result NodeList Refusal → (left : List ℕ) → Answer
   -- what is seen, first to last
   shows : List Seen → Answer
 

@@ -1,6 +1,6 @@
 -- The histories that reach the bounds of demand 3: each copy comes due inside a frame that has just begun, and waits for its abort.
 -- Assumes nothing.
-use Rattle.std.specs.Prelude.{ℕ, ◌+◌, ◌-◌, ◌≡◌, List, [], ◌∷◌, ◌++◌}
+use Rattle.std.specs.Prelude.{ℕ, ◌+◌, ◌-◌, ◌≡◌, List, [], ◌∷◌, ◌++◌, Option}
 use Rattle.frame.specs.Frame.{START, ACK, NAK}
 use Rattle.rules.specs.Rules.{Rules}
 use Rattle.rules.specs.declared.Mode.{Mode}
@@ -8,7 +8,6 @@ use Rattle.rules.specs.declared.Mode.TheVariants.{Sooner, Spaced}
 use Rattle.rules.specs.declared.Cause.{Cause}
 use Rattle.rules.specs.declared.Cause.TheVariants.{Told, Time}
 use Rattle.link.specs.Out.{Out}
-use Rattle.job.specs.declared.job.Asking.{Asking}
 use Rattle.history.specs.Perform.{What, byte, Call, took, perform, lent}
 use Rattle.history.specs.History.{after}
 use Rattle.history.specs.Watch.{Verdict, settled, watched}
@@ -71,7 +70,7 @@ base_round cause wire quiet = given_up cause (1600 + wire) ++ (silence quiet ++ 
 
 -- After the history `h` the call is accepted, and over the calls `k` after it the verdict comes with exactly this accepted tick;
 -- four copies of the frame and no other byte went out.
-pub record Reaches (R : Rules) (h : List Call) (w : What) (a : Asking) (k : List Call) (f : List ℕ) (v : Verdict) (bound : ℕ) : Type 0 where
+pub record Reaches (R : Rules) (h : List Call) (w : What) (a : Option ℕ) (k : List Call) (f : List ℕ) (v : Verdict) (bound : ℕ) : Type 0 where
   pub gave : Out
   pub accepted : perform R (after R h) (lent w) ≡ took gave
   pub verdict : watched R a gave k ≡ settled v bound (f ++ (f ++ (f ++ f)))

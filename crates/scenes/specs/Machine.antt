@@ -2,7 +2,7 @@
 -- `docs/machine` reads these rows, one to a line, and makes the tables and the picture of docs/ARCHITECTURE.md from them.
 -- A number is a variable where the answer does not hang on it; where a test decides, a row stands on each side of the edge.
 -- Assumes nothing.
-use Rattle.std.specs.Prelude.{ℕ, ◌+◌, ◌≡◌, Bool, true, false, List, [], ◌∷◌}
+use Rattle.std.specs.Prelude.{ℕ, ◌+◌, ◌≡◌, Bool, true, false, List, [], ◌∷◌, None, Option, Some}
 use Rattle.std.specs.Int.Bits.{bit_xor}
 use Rattle.refusals.specs.Pick.{pick}
 use Rattle.rules.specs.Rules.{wire_time, rules_of}
@@ -31,14 +31,10 @@ use Rattle.reception.specs.Said.{said_on}
 use Rattle.reception.specs.Sums.{sums_on}
 use Rattle.reception.specs.declared.said.Awaited.{Awaited}
 use Rattle.reception.specs.declared.said.Awaited.TheVariants as awaited
-use Rattle.reception.specs.declared.said.Reply.{Reply}
-use Rattle.reception.specs.declared.said.Reply.TheVariants as reply
 use Rattle.reception.specs.declared.said.Said.{Said}
 use Rattle.reception.specs.declared.sums.Sums.{Sums}
 use Rattle.job.specs.Job.{next_copy, start, is_open}
 use Rattle.job.specs.declared.job.Act.{Act}
-use Rattle.job.specs.declared.job.Asking.{Asking}
-use Rattle.job.specs.declared.job.Asking.TheVariants.{Plain, Asks}
 use Rattle.job.specs.declared.job.Job.{Job}
 use Rattle.job.specs.declared.job.Job.TheVariants.{Idle, Due, Waiting, BackingOff, Awaiting}
 use Rattle.sending.specs.Events.{on_event, on_restart}
@@ -48,13 +44,14 @@ use Rattle.step.specs.declared.deciding.Outcome.{Outcome}
 use Rattle.link.specs.Link.{millis, no_body, no_frame}
 use Rattle.link.specs.Out.{restart_out}
 use Rattle.link.specs.declared.link.Link.{Link}
+use Rattle.hearing.specs.declared.hearing.Single.{Single}
 
 -- ---- the job: what comes to it, and what it does
 pub data JobEvent : Type 0 where
   -- what hearing made of a byte or a tick
   on : Event → JobEvent
   -- a send or session that no other check refuses, while hunting or inside a frame
-  opens : (hunting : Bool) → Asking → JobEvent
+  opens : (hunting : Bool) → Option ℕ → JobEvent
   restarts : JobEvent
 
 pub data Does : Type 0 where
@@ -82,7 +79,7 @@ AllRows o size [] = Unit {0}
 AllRows o size (r ∷ rs) = RowHolds o size r × AllRows o size rs
 
 -- ---- the job's rows, by state: what does something first
-abbrev pub idle_rows : Asking → (at k f : ℕ) → List JobRow
+abbrev pub idle_rows : Option ℕ → (at k f : ℕ) → List JobRow
 idle_rows a at k f =
     row Idle (opens true a) (does (Waiting a 1 0) (sending.Copy 1) session.Nothing reset.Nothing true)
     ∷ row Idle (opens false a) (does (Due a 0) sending.Due session.Nothing reset.Nothing false)
@@ -103,7 +100,7 @@ idle_rows a at k f =
     ∷ row Idle restarts (does Idle sending.Nothing session.Nothing reset.Nothing false)
     ∷ []
 
-abbrev pub due_rows : (a b : Asking) (c n at k f : ℕ) (hunting : Bool) → List JobRow
+abbrev pub due_rows : (a b : Option ℕ) (c n at k f : ℕ) (hunting : Bool) → List JobRow
 due_rows a b c n at k f hunting =
     row (Due a n) (on (Ended BadLength)) (does (Waiting a (next_copy n) 0) (sending.Copy (next_copy n)) session.Nothing reset.Nothing true)
     ∷ row (Due a n) (on (Ended BadSum)) (does (Waiting a (next_copy n) 0) (sending.Copy (next_copy n)) session.Nothing reset.Nothing true)
@@ -124,31 +121,31 @@ due_rows a b c n at k f hunting =
     ∷ row (Due a n) (on TickHunting) (does (Due a n) sending.Nothing session.Nothing reset.Nothing false)
     ∷ row (Due a n) (on TickInside) (does (Due a n) sending.Nothing session.Nothing reset.Nothing false)
     ∷ row (Due a n) (opens hunting b) busy
-    ∷ row (Due Plain n) restarts (does Idle sending.Abandoned session.Nothing reset.Nothing false)
-    ∷ row (Due (Asks c) n) restarts (does Idle sending.Nothing session.Abandoned reset.Nothing false)
+    ∷ row (Due None n) restarts (does Idle sending.Abandoned session.Nothing reset.Nothing false)
+    ∷ row (Due (Some c) n) restarts (does Idle sending.Nothing session.Abandoned reset.Nothing false)
     ∷ []
 
 -- w is the frame's time on the wire; what a loss by time does behind copies 1, 2 and 3 goes by the mode
-abbrev pub waiting_rows : (w : ℕ) (a b : Asking) (c n e at k f : ℕ) (hunting : Bool) → List JobRow
+abbrev pub waiting_rows : (w : ℕ) (a b : Option ℕ) (c n e at k f : ℕ) (hunting : Bool) → List JobRow
 waiting_rows w a b c n e at k f hunting =
-    row (Waiting Plain n e) (on (Alone Ack)) (does Idle (sending.Acknowledged n) session.Nothing reset.Nothing false)
-    ∷ row (Waiting (Asks c) n e) (on (Alone Ack)) (does (Awaiting c n 0) (sending.Acknowledged n) session.Waiting reset.Nothing false)
+    row (Waiting None n e) (on (Alone Ack)) (does Idle (sending.Acknowledged n) session.Nothing reset.Nothing false)
+    ∷ row (Waiting (Some c) n e) (on (Alone Ack)) (does (Awaiting c n 0) (sending.Acknowledged n) session.Waiting reset.Nothing false)
     ∷ row (Waiting a 1 e) (on (Alone Nak)) (does (BackingOff a 1 100) (sending.BackingOff (millis 100)) session.Nothing reset.Nothing false)
     ∷ row (Waiting a 1 e) (on (Alone Can)) (does (BackingOff a 1 100) (sending.BackingOff (millis 100)) session.Nothing reset.Nothing false)
     ∷ row (Waiting a 2 e) (on (Alone Nak)) (does (BackingOff a 2 1_100) (sending.BackingOff (millis 1_100)) session.Nothing reset.Nothing false)
     ∷ row (Waiting a 2 e) (on (Alone Can)) (does (BackingOff a 2 1_100) (sending.BackingOff (millis 1_100)) session.Nothing reset.Nothing false)
     ∷ row (Waiting a 3 e) (on (Alone Nak)) (does (BackingOff a 3 2_100) (sending.BackingOff (millis 2_100)) session.Nothing reset.Nothing false)
     ∷ row (Waiting a 3 e) (on (Alone Can)) (does (BackingOff a 3 2_100) (sending.BackingOff (millis 2_100)) session.Nothing reset.Nothing false)
-    ∷ row (Waiting Plain 4 e) (on (Alone Nak)) (does Idle (sending.Failed 4) session.Nothing reset.Delivery false)
-    ∷ row (Waiting Plain 4 e) (on (Alone Can)) (does Idle (sending.Failed 4) session.Nothing reset.Delivery false)
-    ∷ row (Waiting Plain 4 (1_599 + w)) (on TickHunting) (does Idle (sending.Failed 4) session.Nothing reset.Delivery false)
-    ∷ row (Waiting Plain 4 (1_599 + w)) (on TickInside) (does Idle (sending.Failed 4) session.Nothing reset.Delivery false)
-    ∷ row (Waiting Plain 4 (1_599 + w)) (on Aborted) (does Idle (sending.Failed 4) session.Nothing reset.Delivery false)
-    ∷ row (Waiting (Asks c) 4 e) (on (Alone Nak)) (does Idle (sending.Failed 4) (session.NotSent 4) reset.Delivery false)
-    ∷ row (Waiting (Asks c) 4 e) (on (Alone Can)) (does Idle (sending.Failed 4) (session.NotSent 4) reset.Delivery false)
-    ∷ row (Waiting (Asks c) 4 (1_599 + w)) (on TickHunting) (does Idle (sending.Failed 4) (session.NotSent 4) reset.Delivery false)
-    ∷ row (Waiting (Asks c) 4 (1_599 + w)) (on TickInside) (does Idle (sending.Failed 4) (session.NotSent 4) reset.Delivery false)
-    ∷ row (Waiting (Asks c) 4 (1_599 + w)) (on Aborted) (does Idle (sending.Failed 4) (session.NotSent 4) reset.Delivery false)
+    ∷ row (Waiting None 4 e) (on (Alone Nak)) (does Idle (sending.Failed 4) session.Nothing reset.Delivery false)
+    ∷ row (Waiting None 4 e) (on (Alone Can)) (does Idle (sending.Failed 4) session.Nothing reset.Delivery false)
+    ∷ row (Waiting None 4 (1_599 + w)) (on TickHunting) (does Idle (sending.Failed 4) session.Nothing reset.Delivery false)
+    ∷ row (Waiting None 4 (1_599 + w)) (on TickInside) (does Idle (sending.Failed 4) session.Nothing reset.Delivery false)
+    ∷ row (Waiting None 4 (1_599 + w)) (on Aborted) (does Idle (sending.Failed 4) session.Nothing reset.Delivery false)
+    ∷ row (Waiting (Some c) 4 e) (on (Alone Nak)) (does Idle (sending.Failed 4) (session.NotSent 4) reset.Delivery false)
+    ∷ row (Waiting (Some c) 4 e) (on (Alone Can)) (does Idle (sending.Failed 4) (session.NotSent 4) reset.Delivery false)
+    ∷ row (Waiting (Some c) 4 (1_599 + w)) (on TickHunting) (does Idle (sending.Failed 4) (session.NotSent 4) reset.Delivery false)
+    ∷ row (Waiting (Some c) 4 (1_599 + w)) (on TickInside) (does Idle (sending.Failed 4) (session.NotSent 4) reset.Delivery false)
+    ∷ row (Waiting (Some c) 4 (1_599 + w)) (on Aborted) (does Idle (sending.Failed 4) (session.NotSent 4) reset.Delivery false)
     ∷ row (Waiting a n (1_598 + w)) (on TickHunting) (does (Waiting a n (1_599 + w)) sending.Nothing session.Nothing reset.Nothing false)
     ∷ row (Waiting a n (1_598 + w)) (on TickInside) (does (Waiting a n (1_599 + w)) sending.Nothing session.Nothing reset.Nothing false)
     ∷ row (Waiting a n (1_598 + w)) (on Aborted) (does (Waiting a n (1_599 + w)) sending.Nothing session.Nothing reset.Nothing false)
@@ -161,12 +158,12 @@ waiting_rows w a b c n e at k f hunting =
     ∷ row (Waiting a n e) (on (Ended (Request k))) (does (Waiting a n e) sending.Nothing session.Nothing reset.Nothing false)
     ∷ row (Waiting a n e) (on (Ended (Response k f))) (does (Waiting a n e) sending.Nothing session.Nothing reset.Nothing false)
     ∷ row (Waiting a n e) (opens hunting b) busy
-    ∷ row (Waiting Plain n e) restarts (does Idle sending.Abandoned session.Nothing reset.Nothing false)
-    ∷ row (Waiting (Asks c) n e) restarts (does Idle sending.Nothing session.Abandoned reset.Nothing false)
+    ∷ row (Waiting None n e) restarts (does Idle sending.Abandoned session.Nothing reset.Nothing false)
+    ∷ row (Waiting (Some c) n e) restarts (does Idle sending.Nothing session.Abandoned reset.Nothing false)
     ∷ []
 
 -- a copy lost by time: in the new mode
-abbrev pub sooner_rows : (w : ℕ) (a : Asking) → List JobRow
+abbrev pub sooner_rows : (w : ℕ) (a : Option ℕ) → List JobRow
 sooner_rows w a =
     row (Waiting a 1 (1_599 + w)) (on TickHunting) (does (Waiting a 2 0) (sending.Copy 2) session.Nothing reset.Nothing true)
     ∷ row (Waiting a 1 (1_599 + w)) (on TickInside) (does (Due a 1) sending.Due session.Nothing reset.Nothing false)
@@ -180,7 +177,7 @@ sooner_rows w a =
     ∷ []
 
 -- and in the old
-abbrev pub spaced_rows : (w : ℕ) (a : Asking) → List JobRow
+abbrev pub spaced_rows : (w : ℕ) (a : Option ℕ) → List JobRow
 spaced_rows w a =
     row (Waiting a 1 (1_599 + w)) (on TickHunting) (does (BackingOff a 1 100) (sending.BackingOff (millis 100)) session.Nothing reset.Nothing false)
     ∷ row (Waiting a 1 (1_599 + w)) (on TickInside) (does (BackingOff a 1 100) (sending.BackingOff (millis 100)) session.Nothing reset.Nothing false)
@@ -193,7 +190,7 @@ spaced_rows w a =
     ∷ row (Waiting a 3 (1_599 + w)) (on Aborted) (does (BackingOff a 3 2_100) (sending.BackingOff (millis 2_100)) session.Nothing reset.Nothing false)
     ∷ []
 
-abbrev pub backing_off_rows : (a b : Asking) (c n l at k f : ℕ) (hunting : Bool) → List JobRow
+abbrev pub backing_off_rows : (a b : Option ℕ) (c n l at k f : ℕ) (hunting : Bool) → List JobRow
 backing_off_rows a b c n l at k f hunting =
     row (BackingOff a n 1) (on TickHunting) (does (Waiting a (next_copy n) 0) (sending.Copy (next_copy n)) session.Nothing reset.Nothing true)
     ∷ row (BackingOff a n 1) (on Aborted) (does (Waiting a (next_copy n) 0) (sending.Copy (next_copy n)) session.Nothing reset.Nothing true)
@@ -216,11 +213,11 @@ backing_off_rows a b c n l at k f hunting =
     ∷ row (BackingOff a n l) (on (Ended (Request k))) (does (BackingOff a n l) sending.Nothing session.Nothing reset.Nothing false)
     ∷ row (BackingOff a n l) (on (Ended (Response k f))) (does (BackingOff a n l) sending.Nothing session.Nothing reset.Nothing false)
     ∷ row (BackingOff a n l) (opens hunting b) busy
-    ∷ row (BackingOff Plain n l) restarts (does Idle sending.Abandoned session.Nothing reset.Nothing false)
-    ∷ row (BackingOff (Asks c) n l) restarts (does Idle sending.Nothing session.Abandoned reset.Nothing false)
+    ∷ row (BackingOff None n l) restarts (does Idle sending.Abandoned session.Nothing reset.Nothing false)
+    ∷ row (BackingOff (Some c) n l) restarts (does Idle sending.Nothing session.Abandoned reset.Nothing false)
     ∷ []
 
-abbrev pub awaiting_rows : (b : Asking) (c n e at k : ℕ) (hunting : Bool) → List JobRow
+abbrev pub awaiting_rows : (b : Option ℕ) (c n e at k : ℕ) (hunting : Bool) → List JobRow
 awaiting_rows b c n e at k hunting =
     row (Awaiting 0x07 n e) (on (Ended (Response k 0x07))) (does Idle sending.Nothing (session.Response n) reset.Nothing false)
     ∷ row (Awaiting c n 4_999) (on TickHunting) (does Idle sending.Nothing (session.NoResponse n) reset.Nothing false)
@@ -257,7 +254,7 @@ pub data Becomes : Type 0 where
 
 -- the next hearing and the event; what reception says, answers and hands up; the run of bad sums after it, and its reset
 pub data Hears : Type 0 where
-  hears : Hearing → Becomes → Reception → Reply → (up : ℕ) → (bad : ℕ) → Reset → Hears
+  hears : Hearing → Becomes → Reception → Option Single → (up : ℕ) → (bad : ℕ) → Reset → Hears
 
 abbrev pub heard_as : Hearing → Event → Said → Sums → Hears
 heard_as h e q z = hears h (event e) q.reception q.reply q.up z.bad z.reset
@@ -295,69 +292,69 @@ partial clock size at sum kind command = record { clock = clock; size = size; at
 -- ---- hearing's rows, by state
 abbrev pub hunting_rows : Awaited → (bad : ℕ) → List HearingRow
 hunting_rows w bad =
-    hear Hunting (byte 0x01) w bad (hears (Head 0) (event Inside) reception.Nothing reply.Silent 0 bad reset.Nothing)
-    ∷ hear Hunting (byte 0x06) w bad (hears Hunting (event (Alone Ack)) reception.Nothing reply.Silent 0 bad reset.Nothing)
-    ∷ hear Hunting (byte 0x15) w bad (hears Hunting (event (Alone Nak)) reception.Nothing reply.Silent 0 bad reset.Nothing)
-    ∷ hear Hunting (byte 0x18) w bad (hears Hunting (event (Alone Can)) reception.Nothing reply.Silent 0 bad reset.Nothing)
-    ∷ hear Hunting (byte 0x00) w bad (hears Hunting (event Skipped) reception.Skipped reply.Silent 0 bad reset.Nothing)
-    ∷ hear Hunting (byte 0x02) w bad (hears Hunting (event Skipped) reception.Skipped reply.Silent 0 bad reset.Nothing)
-    ∷ hear Hunting (byte 0x05) w bad (hears Hunting (event Skipped) reception.Skipped reply.Silent 0 bad reset.Nothing)
-    ∷ hear Hunting (byte 0x07) w bad (hears Hunting (event Skipped) reception.Skipped reply.Silent 0 bad reset.Nothing)
-    ∷ hear Hunting (byte 0x14) w bad (hears Hunting (event Skipped) reception.Skipped reply.Silent 0 bad reset.Nothing)
-    ∷ hear Hunting (byte 0x16) w bad (hears Hunting (event Skipped) reception.Skipped reply.Silent 0 bad reset.Nothing)
-    ∷ hear Hunting (byte 0x17) w bad (hears Hunting (event Skipped) reception.Skipped reply.Silent 0 bad reset.Nothing)
-    ∷ hear Hunting (byte 0x19) w bad (hears Hunting (event Skipped) reception.Skipped reply.Silent 0 bad reset.Nothing)
-    ∷ hear Hunting (byte 0xFF) w bad (hears Hunting (event Skipped) reception.Skipped reply.Silent 0 bad reset.Nothing)
-    ∷ hear Hunting tick w bad (hears Hunting (event TickHunting) reception.Nothing reply.Silent 0 bad reset.Nothing)
-    ∷ hear Hunting restart w bad (hears Hunting fresh reception.Nothing reply.Nak 0 0 reset.Nothing)
+    hear Hunting (byte 0x01) w bad (hears (Head 0) (event Inside) reception.Nothing None 0 bad reset.Nothing)
+    ∷ hear Hunting (byte 0x06) w bad (hears Hunting (event (Alone Ack)) reception.Nothing None 0 bad reset.Nothing)
+    ∷ hear Hunting (byte 0x15) w bad (hears Hunting (event (Alone Nak)) reception.Nothing None 0 bad reset.Nothing)
+    ∷ hear Hunting (byte 0x18) w bad (hears Hunting (event (Alone Can)) reception.Nothing None 0 bad reset.Nothing)
+    ∷ hear Hunting (byte 0x00) w bad (hears Hunting (event Skipped) reception.Skipped None 0 bad reset.Nothing)
+    ∷ hear Hunting (byte 0x02) w bad (hears Hunting (event Skipped) reception.Skipped None 0 bad reset.Nothing)
+    ∷ hear Hunting (byte 0x05) w bad (hears Hunting (event Skipped) reception.Skipped None 0 bad reset.Nothing)
+    ∷ hear Hunting (byte 0x07) w bad (hears Hunting (event Skipped) reception.Skipped None 0 bad reset.Nothing)
+    ∷ hear Hunting (byte 0x14) w bad (hears Hunting (event Skipped) reception.Skipped None 0 bad reset.Nothing)
+    ∷ hear Hunting (byte 0x16) w bad (hears Hunting (event Skipped) reception.Skipped None 0 bad reset.Nothing)
+    ∷ hear Hunting (byte 0x17) w bad (hears Hunting (event Skipped) reception.Skipped None 0 bad reset.Nothing)
+    ∷ hear Hunting (byte 0x19) w bad (hears Hunting (event Skipped) reception.Skipped None 0 bad reset.Nothing)
+    ∷ hear Hunting (byte 0xFF) w bad (hears Hunting (event Skipped) reception.Skipped None 0 bad reset.Nothing)
+    ∷ hear Hunting tick w bad (hears Hunting (event TickHunting) reception.Nothing None 0 bad reset.Nothing)
+    ∷ hear Hunting restart w bad (hears Hunting fresh reception.Nothing (Some Nak) 0 0 reset.Nothing)
     ∷ []
 
 abbrev pub head_rows : Awaited → (bad c : ℕ) → List HearingRow
 head_rows w bad c =
-    hear (Head c) (byte 0x00) w bad (hears Hunting (event (Ended BadLength)) reception.BadLength reply.Silent 0 bad reset.Nothing)
-    ∷ hear (Head c) (byte 0x01) w bad (hears Hunting (event (Ended BadLength)) reception.BadLength reply.Silent 0 bad reset.Nothing)
-    ∷ hear (Head c) (byte 0x02) w bad (hears Hunting (event (Ended BadLength)) reception.BadLength reply.Silent 0 bad reset.Nothing)
-    ∷ hear (Head c) (byte 0x03) w bad (hears (Body (partial c 2 0 0xFC 0 0)) (event Inside) reception.Nothing reply.Silent 0 bad reset.Nothing)
-    ∷ hear (Head c) (byte 0xFF) w bad (hears (Body (partial c 254 0 0x00 0 0)) (event Inside) reception.Nothing reply.Silent 0 bad reset.Nothing)
-    ∷ hear (Head 1_499) tick w bad (hears (Head 1_500) (event TickInside) reception.Nothing reply.Silent 0 bad reset.Nothing)
-    ∷ hear (Head 1_500) tick w bad (hears Hunting (event Aborted) reception.Abort reply.Silent 0 bad reset.Nothing)
-    ∷ hear (Head c) restart w bad (hears Hunting fresh reception.Nothing reply.Nak 0 0 reset.Nothing)
+    hear (Head c) (byte 0x00) w bad (hears Hunting (event (Ended BadLength)) reception.BadLength None 0 bad reset.Nothing)
+    ∷ hear (Head c) (byte 0x01) w bad (hears Hunting (event (Ended BadLength)) reception.BadLength None 0 bad reset.Nothing)
+    ∷ hear (Head c) (byte 0x02) w bad (hears Hunting (event (Ended BadLength)) reception.BadLength None 0 bad reset.Nothing)
+    ∷ hear (Head c) (byte 0x03) w bad (hears (Body (partial c 2 0 0xFC 0 0)) (event Inside) reception.Nothing None 0 bad reset.Nothing)
+    ∷ hear (Head c) (byte 0xFF) w bad (hears (Body (partial c 254 0 0x00 0 0)) (event Inside) reception.Nothing None 0 bad reset.Nothing)
+    ∷ hear (Head 1_499) tick w bad (hears (Head 1_500) (event TickInside) reception.Nothing None 0 bad reset.Nothing)
+    ∷ hear (Head 1_500) tick w bad (hears Hunting (event Aborted) reception.Abort None 0 bad reset.Nothing)
+    ∷ hear (Head c) restart w bad (hears Hunting fresh reception.Nothing (Some Nak) 0 0 reset.Nothing)
     ∷ []
 
 abbrev pub body_rows : Awaited → (bad c s t m b : ℕ) → List HearingRow
 body_rows w bad c s t m b =
-    hear (Body (partial c 2 0 s t m)) (byte b) w bad (hears (Body (partial c 2 1 (bit_xor s b) b m)) (event (Kept 0)) reception.Nothing reply.Silent 0 bad reset.Nothing)
-    ∷ hear (Body (partial c 2 1 s t m)) (byte b) w bad (hears (Body (partial c 2 2 (bit_xor s b) t b)) (event (Kept 1)) reception.Nothing reply.Silent 0 bad reset.Nothing)
-    ∷ hear (Body (partial c 254 253 s t m)) (byte b) w bad (hears (Body (partial c 254 254 (bit_xor s b) t m)) (event (Kept 253)) reception.Nothing reply.Silent 0 bad reset.Nothing)
+    hear (Body (partial c 2 0 s t m)) (byte b) w bad (hears (Body (partial c 2 1 (bit_xor s b) b m)) (event (Kept 0)) reception.Nothing None 0 bad reset.Nothing)
+    ∷ hear (Body (partial c 2 1 s t m)) (byte b) w bad (hears (Body (partial c 2 2 (bit_xor s b) t b)) (event (Kept 1)) reception.Nothing None 0 bad reset.Nothing)
+    ∷ hear (Body (partial c 254 253 s t m)) (byte b) w bad (hears (Body (partial c 254 254 (bit_xor s b) t m)) (event (Kept 253)) reception.Nothing None 0 bad reset.Nothing)
     ∷ []
 
 -- a frame of Type 00 or 01, with what is awaited: of the host, and of a stand-in that awaits no ACK
 abbrev pub frame_rows : Awaited → (bad c m : ℕ) → List HearingRow
 frame_rows w bad c m =
-    hear (Body (partial c 2 2 0xFB 0x00 m)) (byte 0xFB) w bad (hears Hunting (event (Ended (Request 2))) reception.Frame reply.Ack 2 0 reset.Nothing)
-    ∷ hear (Body (partial c 2 2 0xFA 0x01 0x07)) (byte 0xFA) (awaited.Response 0x07) bad (hears Hunting (event (Ended (Response 2 0x07))) reception.Frame reply.Ack 2 0 reset.Nothing)
-    ∷ hear (Body (partial c 2 2 0xFA 0x01 0x07)) (byte 0xFA) (awaited.Response 0x08) bad (hears Hunting (event (Ended (Response 2 0x07))) reception.StrayResponse reply.Ack 2 0 reset.Nothing)
-    ∷ hear (Body (partial c 2 2 0xFA 0x01 0x07)) (byte 0xFA) awaited.Nothing bad (hears Hunting (event (Ended (Response 2 0x07))) reception.StrayResponse reply.Ack 2 0 reset.Nothing)
+    hear (Body (partial c 2 2 0xFB 0x00 m)) (byte 0xFB) w bad (hears Hunting (event (Ended (Request 2))) reception.Frame (Some Ack) 2 0 reset.Nothing)
+    ∷ hear (Body (partial c 2 2 0xFA 0x01 0x07)) (byte 0xFA) (awaited.Response 0x07) bad (hears Hunting (event (Ended (Response 2 0x07))) reception.Frame (Some Ack) 2 0 reset.Nothing)
+    ∷ hear (Body (partial c 2 2 0xFA 0x01 0x07)) (byte 0xFA) (awaited.Response 0x08) bad (hears Hunting (event (Ended (Response 2 0x07))) reception.StrayResponse (Some Ack) 2 0 reset.Nothing)
+    ∷ hear (Body (partial c 2 2 0xFA 0x01 0x07)) (byte 0xFA) awaited.Nothing bad (hears Hunting (event (Ended (Response 2 0x07))) reception.StrayResponse (Some Ack) 2 0 reset.Nothing)
     ∷ []
 
 -- and of a stand-in that awaits its ACK
 abbrev pub cancel_rows : (bad c m : ℕ) → List HearingRow
 cancel_rows bad c m =
-    hear (Body (partial c 2 2 0xFB 0x00 m)) (byte 0xFB) awaited.Ack bad (hears Hunting (event (Ended (Request 2))) reception.Cancelled reply.Can 0 0 reset.Nothing)
-    ∷ hear (Body (partial c 2 2 0xFA 0x01 m)) (byte 0xFA) awaited.Ack bad (hears Hunting (event (Ended (Response 2 m))) reception.Cancelled reply.Can 0 0 reset.Nothing)
+    hear (Body (partial c 2 2 0xFB 0x00 m)) (byte 0xFB) awaited.Ack bad (hears Hunting (event (Ended (Request 2))) reception.Cancelled (Some Can) 0 0 reset.Nothing)
+    ∷ hear (Body (partial c 2 2 0xFA 0x01 m)) (byte 0xFA) awaited.Ack bad (hears Hunting (event (Ended (Response 2 m))) reception.Cancelled (Some Can) 0 0 reset.Nothing)
     ∷ []
 
 -- any other end of the frame
 abbrev pub end_rows : Awaited → (bad c k at s t m : ℕ) → List HearingRow
 end_rows w bad c k at s t m =
-    hear (Body (partial c 2 2 0xF9 0x02 m)) (byte 0xF9) w bad (hears Hunting (event (Ended Reserved)) reception.Reserved reply.Ack 0 0 reset.Nothing)
-    ∷ hear (Body (partial c 2 2 0x04 0xFF m)) (byte 0x04) w bad (hears Hunting (event (Ended Reserved)) reception.Reserved reply.Ack 0 0 reset.Nothing)
-    ∷ hear (Body (partial c 2 2 0xFB t m)) (byte 0xFA) w 0 (hears Hunting (event (Ended BadSum)) reception.BadSum reply.Nak 0 1 reset.Nothing)
-    ∷ hear (Body (partial c 2 2 0xFB t m)) (byte 0xFA) w 1 (hears Hunting (event (Ended BadSum)) reception.BadSum reply.Nak 0 2 reset.Nothing)
-    ∷ hear (Body (partial c 2 2 0xFB t m)) (byte 0xFA) w 2 (hears Hunting (event (Ended BadSum)) reception.BadSum reply.Nak 0 0 reset.Sums)
-    ∷ hear (Body (partial 1_499 k at s t m)) tick w bad (hears (Body (partial 1_500 k at s t m)) (event TickInside) reception.Nothing reply.Silent 0 bad reset.Nothing)
-    ∷ hear (Body (partial 1_500 k at s t m)) tick w bad (hears Hunting (event Aborted) reception.Abort reply.Silent 0 bad reset.Nothing)
-    ∷ hear (Body (partial c k at s t m)) restart w bad (hears Hunting fresh reception.Nothing reply.Nak 0 0 reset.Nothing)
+    hear (Body (partial c 2 2 0xF9 0x02 m)) (byte 0xF9) w bad (hears Hunting (event (Ended Reserved)) reception.Reserved (Some Ack) 0 0 reset.Nothing)
+    ∷ hear (Body (partial c 2 2 0x04 0xFF m)) (byte 0x04) w bad (hears Hunting (event (Ended Reserved)) reception.Reserved (Some Ack) 0 0 reset.Nothing)
+    ∷ hear (Body (partial c 2 2 0xFB t m)) (byte 0xFA) w 0 (hears Hunting (event (Ended BadSum)) reception.BadSum (Some Nak) 0 1 reset.Nothing)
+    ∷ hear (Body (partial c 2 2 0xFB t m)) (byte 0xFA) w 1 (hears Hunting (event (Ended BadSum)) reception.BadSum (Some Nak) 0 2 reset.Nothing)
+    ∷ hear (Body (partial c 2 2 0xFB t m)) (byte 0xFA) w 2 (hears Hunting (event (Ended BadSum)) reception.BadSum (Some Nak) 0 0 reset.Sums)
+    ∷ hear (Body (partial 1_499 k at s t m)) tick w bad (hears (Body (partial 1_500 k at s t m)) (event TickInside) reception.Nothing None 0 bad reset.Nothing)
+    ∷ hear (Body (partial 1_500 k at s t m)) tick w bad (hears Hunting (event Aborted) reception.Abort None 0 bad reset.Nothing)
+    ∷ hear (Body (partial c k at s t m)) restart w bad (hears Hunting fresh reception.Nothing (Some Nak) 0 0 reset.Nothing)
     ∷ []
 
 -- ---- a fresh link
@@ -365,7 +362,7 @@ abbrev pub Starts : Choice → Type 0
 Starts o = ((fresh_core o).hearing ≡ Hunting) × ((fresh_core o).job ≡ Idle)
 
 -- ---- both tables, whatever the variables are; and whatever was chosen, but for the rows of one mode
-abbrev pub JobTable : (o : Choice) (size : ℕ) (a b : Asking) (c n e l at k f : ℕ) (hunting : Bool) → Type 0
+abbrev pub JobTable : (o : Choice) (size : ℕ) (a b : Option ℕ) (c n e l at k f : ℕ) (hunting : Bool) → Type 0
 JobTable o size a b c n e l at k f hunting =
     AllRows o size (idle_rows a at k f)
     × (AllRows o size (due_rows a b c n at k f hunting)

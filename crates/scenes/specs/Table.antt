@@ -1,10 +1,8 @@
 -- Section 10: the examples with a star, in the document's order and words; the times of three of them are those of document 02, P2 (5 bytes take
 -- a tick on the wire), and the silent-line cases name the old mode (P4). A tick's number is that of the accepted ticks so far.
 -- Assumes nothing.
-use Rattle.std.specs.Prelude.{ℕ, List, [], ◌∷◌, ◌++◌, replicate}
-use Rattle.frame.specs.declared.builder.Built.TheVariants.{Frame}
+use Rattle.std.specs.Prelude.{ℕ, List, [], ◌∷◌, ◌++◌, replicate, Ok, Err}
 use Rattle.refusals.specs.declared.Refusal.TheVariants as refusal
-use Rattle.reading.specs.declared.reader.Reading.TheVariants.{Refused}
 use Rattle.report.specs.declared.Reception.{Reception}
 use Rattle.report.specs.declared.Reception.TheVariants as reception
 use Rattle.report.specs.declared.Reset.{Reset}
@@ -12,7 +10,6 @@ use Rattle.report.specs.declared.Reset.TheVariants as reset
 use Rattle.report.specs.declared.Sending.{Sending}
 use Rattle.report.specs.declared.Sending.TheVariants as sending
 use Rattle.report.specs.declared.Session.TheVariants as session
-use Rattle.nodes.specs.declared.NodeList.TheVariants as nodes
 use Rattle.history.specs.Perform.{Call, byte, send, lent}
 use Rattle.scenes.specs.Scene.{silence, Seen, said}
 use Rattle.scenes.specs.Example.{build, set_timeouts, read, list, play, play_spaced, built, reading, listed, shows, Example}
@@ -80,7 +77,7 @@ unfoldable pub req07 : Example
 req07 =
     record {
       question = build 0x00 0x07 [] (replicate 5 0);
-      expected = built (Frame 5) (0x01 ∷ 0x03 ∷ 0x00 ∷ 0x07 ∷ 0xFB ∷ []);
+      expected = built (Ok 5) (0x01 ∷ 0x03 ∷ 0x00 ∷ 0x07 ∷ 0xFB ∷ []);
     }
 
 -- REQ 06 with 96 0F (1,500 and 150 ms): 01 05 00 06 96 0F 65.
@@ -88,27 +85,27 @@ abbrev pub frame06 : List ℕ
 frame06 = 0x01 ∷ 0x05 ∷ 0x00 ∷ 0x06 ∷ 0x96 ∷ 0x0F ∷ 0x65 ∷ []
 
 unfoldable pub req06 : Example
-req06 = record { question = build 0x00 0x06 (0x96 ∷ 0x0F ∷ []) (replicate 7 0); expected = built (Frame 7) frame06 }
+req06 = record { question = build 0x00 0x06 (0x96 ∷ 0x0F ∷ []) (replicate 7 0); expected = built (Ok 7) frame06 }
 
 unfoldable pub req06_times : Example
 req06_times =
     record {
       question = set_timeouts (record { 0 = 1500 }) (record { 0 = 150 }) (replicate 7 0);
-      expected = built (Frame 7) frame06;
+      expected = built (Ok 7) frame06;
     }
 
 -- 01 03 00 07 FA is SUM; 01 02 00 FD is LENGTH; 01 03 00 07 is SHORT; 01 03 02 07 F9 is KIND.
 unfoldable pub is_sum : Example
-is_sum = record { question = read (0x01 ∷ 0x03 ∷ 0x00 ∷ 0x07 ∷ 0xFA ∷ []); expected = reading (Refused refusal.Sum) }
+is_sum = record { question = read (0x01 ∷ 0x03 ∷ 0x00 ∷ 0x07 ∷ 0xFA ∷ []); expected = reading (Err refusal.Sum) }
 
 unfoldable pub is_length : Example
-is_length = record { question = read (0x01 ∷ 0x02 ∷ 0x00 ∷ 0xFD ∷ []); expected = reading (Refused refusal.Length) }
+is_length = record { question = read (0x01 ∷ 0x02 ∷ 0x00 ∷ 0xFD ∷ []); expected = reading (Err refusal.Length) }
 
 unfoldable pub is_short : Example
-is_short = record { question = read (0x01 ∷ 0x03 ∷ 0x00 ∷ 0x07 ∷ []); expected = reading (Refused refusal.Short) }
+is_short = record { question = read (0x01 ∷ 0x03 ∷ 0x00 ∷ 0x07 ∷ []); expected = reading (Err refusal.Short) }
 
 unfoldable pub is_kind : Example
-is_kind = record { question = read (0x01 ∷ 0x03 ∷ 0x02 ∷ 0x07 ∷ 0xF9 ∷ []); expected = reading (Refused refusal.Kind) }
+is_kind = record { question = read (0x01 ∷ 0x03 ∷ 0x02 ∷ 0x07 ∷ 0xF9 ∷ []); expected = reading (Err refusal.Kind) }
 
 -- 06 after 1,600 ticks: acknowledged, 1 copy.
 unfoldable pub ack_in_time : Example
@@ -189,7 +186,10 @@ unfoldable pub first_byte_05 : Example
 first_byte_05 =
     record {
       question = list (0x01 ∷ 0x02 ∷ 0x05 ∷ 0x08 ∷ 29 ∷ 0x05 ∷ (replicate 28 0 ++ (0x07 ∷ 0x00 ∷ []))) (replicate 232 0);
-      expected = listed (nodes.Answer 0x05 0x08 2 0x07 0x00) (1 ∷ 3 ∷ replicate 230 0);
+      expected =
+          listed
+          (Ok (record { controller = record { version = 0x05; capabilities = 0x08; chip_type = 0x07; chip_version = 0x00 }; count = 2 }))
+          (1 ∷ 3 ∷ replicate 230 0);
     }
 
 abbrev pub table : List Example

@@ -1,77 +1,52 @@
-// The calls on frames and on command bodies. What each answers is a row of values for its form: 0 and what was read or written, or 1 and the refusal's number.
-use crate::form::{form_at, say};
+// The calls on frames and on command bodies, each with its line of output.
 use crate::order::Order;
-use crate::printing::put_end;
-use capabilities::{Capabilities, Support};
-use frame::Built;
-use masks::Written;
-use nodes::NodeList;
+use crate::output::Output;
+use crate::table::Call;
+use crate::word::MOST;
+use capabilities::{Capabilities, Identity, read_capabilities, supports, write_capabilities};
+use frame::build;
+use nodes::{Controller, NodeList, read_nodes, write_nodes};
 use orders::{behind, fill, is_spilled, spelt_at, within};
-use reading::Reading;
+use reading::{Parts, read};
 use refusals::Refusal;
-use timeouts::OldTimeouts;
+use std::fmt::Write;
+use std::io;
+use timeouts::{OldTimeouts, read_timeouts, set_timeouts, write_timeouts};
 use units::Millis;
 
-// The values of an answer, and how many lent bytes it reports.
-#[derive(Clone, Copy)]
-struct Told {
-    pub values: [u64; 8],
-    pub used: usize,
+// The number of two bytes at a place, most significant first.
+fn pair_at(bytes: &[u8], at: usize) -> u16 {
+    let rest = behind(bytes, at);
+    u16::from_be_bytes([spelt_at(rest, 0), spelt_at(rest, 1)])
 }
 
-fn refused(refusal: Refusal) -> Told {
-    let number = refusals::number_of(refusal) as u64;
-    Told {
-        values: [1, number, 0, 0, 0, 0, 0, 0],
-        used: 0,
+// The line has the 8 fixed bytes, then the mask.
+fn identity_of(bytes: &[u8]) -> Identity {
+    Identity {
+        version: spelt_at(bytes, 0),
+        revision: spelt_at(bytes, 1),
+        manufacturer: pair_at(bytes, 2),
+        product_type: pair_at(bytes, 4),
+        product_id: pair_at(bytes, 6),
     }
 }
 
-// A frame or a list in the lent buffer.
-fn built(answer: Built) -> Told {
-    match answer {
-        Built::Refused(refusal) => refused(refusal),
-        Built::Frame(count) => Told {
-            values: [0, count as u64, 0, 0, 0, 0, 0, 0],
-            used: count as usize,
-        },
-    }
-}
-
-fn build(bytes: &[u8], lent: &mut [u8]) -> Told {
-    let kind = spelt_at(bytes, 0);
-    let command = spelt_at(bytes, 1);
-    built(frame::build(kind, command, behind(bytes, 2), lent))
-}
-
-fn read(bytes: &[u8]) -> Told {
-    match reading::read(bytes) {
-        Reading::Refused(refusal) => refused(refusal),
-        Reading::Parts {
-            kind,
-            command,
-            count,
-        } => Told {
-            values: [0, kind as u64, command as u64, count as u64, 0, 0, 0, 0],
-            used: 0,
-        },
-    }
-}
-
-fn is_supported(body: &[u8], f: u8) -> bool {
-    match capabilities::supports(body, f) {
-        Support::Supported => true,
-        Support::Refused(_) | Support::Unsupported => false,
+// The line has the version, the capabilities, the chip's type and version, then the mask.
+fn controller_of(bytes: &[u8]) -> Controller {
+    Controller {
+        version: spelt_at(bytes, 0),
+        capabilities: spelt_at(bytes, 1),
+        chip_type: spelt_at(bytes, 2),
+        chip_version: spelt_at(bytes, 3),
     }
 }
 
 // Lists the functions that the body supports, in rising order, and answers how many there are.
+// Apart from the loop of `nodes::read_nodes`, whose promise says what it lists: with a test handed to it that promise would be no plainer. n counts what is listed; over `iter_mut` it would have to be counted besides.
 fn list_functions(body: &[u8], list: &mut [u8]) -> usize {
     let mut n = 0;
-    let mut f: u8 = 0;
-    while f < 255 {
-        f += 1;
-        if n < list.len() && is_supported(body, f) {
+    for f in 1..=255 {
+        if n < list.len() && matches!(supports(body, f), Ok(true)) {
             list[n] = f;
             n += 1;
         }
@@ -79,158 +54,134 @@ fn list_functions(body: &[u8], list: &mut [u8]) -> usize {
     n
 }
 
-fn capabilities(body: &[u8], list: &mut [u8]) -> Told {
-    match capabilities::read_capabilities(body) {
-        Capabilities::Refused(refusal) => refused(refusal),
-        Capabilities::Answer {
-            version,
-            revision,
-            manufacturer,
-            product_type,
-            product_id,
-            supported,
-        } => {
-            let n = list_functions(body, list);
-            Told {
-                values: [
-                    0,
-                    version as u64,
-                    revision as u64,
-                    manufacturer as u64,
-                    product_type as u64,
-                    product_id as u64,
-                    supported as u64,
-                    n as u64,
-                ],
-                used: n,
+// What is said of each answer. Each function answers how many lent bytes it reports.
+impl<'a, P: Print> Output<'a, P> {
+    // An answer by the function that says it, or a refusal by its number; that reports no byte.
+    fn put_answer<T: Copy, F: FnOnce(&mut Self, T) -> io::Result<usize>>(
+        &mut self,
+        answer: Result<T, Refusal>,
+        put: F,
+    ) -> io::Result<usize>
+        requires { F.IsAlwaysCallable put }
+    {
+        match answer {
+            Ok(value) => {
+                self.put_all(b" ok ")?;
+                put(self, value)
+            }
+            Err(refusal) => {
+                self.put_refused(refusal)?;
+                Ok(0)
             }
         }
     }
-}
 
-fn nodes(body: &[u8], list: &mut [u8]) -> Told {
-    match nodes::read_nodes(body, list) {
-        NodeList::Refused(refusal) => refused(refusal),
-        NodeList::Answer {
-            version,
-            capabilities,
-            count,
-            chip_type,
-            chip_version,
-        } => Told {
-            values: [
-                0,
-                version as u64,
-                capabilities as u64,
-                count as u64,
-                chip_type as u64,
-                chip_version as u64,
-                0,
-                0,
-            ],
-            used: count as usize,
-        },
+    // The first bytes of a list, so many.
+    fn put_front(&mut self, list: &[u8], n: usize) -> io::Result<()> {
+        self.put_bytes(&list[..within(n, list)])
     }
-}
 
-// A body in the lent buffer.
-fn written(answer: Written) -> Told {
-    match answer {
-        Written::Refused(refusal) => refused(refusal),
-        Written::Body(count) => Told {
-            values: [0, count as u64, 0, 0, 0, 0, 0, 0],
-            used: count as usize,
-        },
+    // A frame or a body in the lent buffer.
+    fn put_written(&mut self, count: u16, lent: &[u8]) -> io::Result<usize> {
+        self.put_front(lent, count as usize)?;
+        Ok(count as usize)
     }
-}
 
-// The number of two bytes at a place, most significant first.
-fn pair_at(bytes: &[u8], at: usize) -> u16 {
-    let rest = behind(bytes, at);
-    spelt_at(rest, 0) as u16 * 256 + spelt_at(rest, 1) as u16
-}
-
-// The line has the 8 fixed bytes, then the mask.
-fn write_capabilities(bytes: &[u8], lent: &mut [u8]) -> Told {
-    let version = spelt_at(bytes, 0);
-    let revision = spelt_at(bytes, 1);
-    let manufacturer = pair_at(bytes, 2);
-    let product_type = pair_at(bytes, 4);
-    let product_id = pair_at(bytes, 6);
-    written(capabilities::write_capabilities(
-        version,
-        revision,
-        manufacturer,
-        product_type,
-        product_id,
-        behind(bytes, 8),
-        lent,
-    ))
-}
-
-// The line has the version, the capabilities, the chip's type and version, then the mask.
-fn write_nodes(bytes: &[u8], lent: &mut [u8]) -> Told {
-    let version = spelt_at(bytes, 0);
-    let capabilities = spelt_at(bytes, 1);
-    let chip_type = spelt_at(bytes, 2);
-    let chip_version = spelt_at(bytes, 3);
-    written(nodes::write_nodes(
-        version,
-        capabilities,
-        behind(bytes, 4),
-        chip_type,
-        chip_version,
-        lent,
-    ))
-}
-
-fn old_timeouts(body: &[u8]) -> Told {
-    match timeouts::read_timeouts(body) {
-        OldTimeouts::Refused(refusal) => refused(refusal),
-        OldTimeouts::Were { rxack, rxbyte } => Told {
-            values: [0, rxack.0 as u64, rxbyte.0 as u64, 0, 0, 0, 0, 0],
-            used: 0,
-        },
+    // The parts of a frame, whose parameters stand behind four bytes of it.
+    fn put_parts(&mut self, parts: Parts, bytes: &[u8]) -> io::Result<usize> {
+        let Parts { kind, command, .. } = parts;
+        write!(self, "type={kind:02X} command={command:02X} parameters=")?;
+        self.put_front(behind(bytes, 4), parts.count as usize)?;
+        Ok(0)
     }
-}
 
-// The call with this letter. The bytes are those of its line in the script.
-fn answer(order: Order, bytes: &[u8], lent: &mut [u8]) -> Told {
-    let call = order.call;
-    match call {
-        b'b' => build(bytes, lent),
-        b'r' => read(bytes),
-        b'c' => capabilities(bytes, lent),
-        b'n' => nodes(bytes, lent),
-        b't' => built(timeouts::set_timeouts(Millis(order.before), Millis(order.number), lent)),
-        b'o' => old_timeouts(bytes),
-        b'u' => write_capabilities(bytes, lent),
-        b'v' => write_nodes(bytes, lent),
-        b'w' => written(timeouts::write_timeouts(Millis(order.before), Millis(order.number), lent)),
-        // An error has no values. No row of the table has another letter; its line would say so, since no refusal has the number 0.
-        _ => Told {
-            values: [1, 0, 0, 0, 0, 0, 0, 0],
-            used: 0,
-        },
+    fn put_capabilities(
+        &mut self,
+        answer: Capabilities,
+        body: &[u8],
+        list: &mut [u8],
+    ) -> io::Result<usize> {
+        let identity = answer.identity;
+        write!(
+            self,
+            "fixed={:02X}{:02X}",
+            identity.version, identity.revision
+        )?;
+        write!(
+            self,
+            "{:04X}{:04X}{:04X}",
+            identity.manufacturer, identity.product_type, identity.product_id
+        )?;
+        write!(self, " count={} functions=", answer.supported)?;
+        let n = list_functions(body, list);
+        self.put_front(list, n)?;
+        Ok(n)
     }
-}
 
-// An order that needs no link, with its line of output. The second list of a form is what stands behind the front of a whole frame: its parameters.
-pub fn on_other(
-    rt: &impl Print,
-    verbs: &[u8],
-    order: Order,
-    bytes: &[u8],
-    out: &mut [u8],
-    waiting: usize,
-) -> usize {
-    let mut space = [0u8; 600];
-    fill(&mut space);
-    let n = within(order.room, &space);
-    let lent = &mut space[0..n];
-    let told = answer(order, bytes, lent);
-    let form = form_at(verbs, order.form);
-    let values = told.values;
-    let w = say(rt, form, values, lent, behind(bytes, 4), out, waiting);
-    put_end(rt, is_spilled(lent, told.used), out, w)
+    fn put_nodes(&mut self, answer: NodeList, list: &[u8]) -> io::Result<usize> {
+        let controller = answer.controller;
+        write!(
+            self,
+            "version={:02X} capabilities={:02X} nodes=",
+            controller.version, controller.capabilities
+        )?;
+        self.put_front(list, answer.count as usize)?;
+        write!(
+            self,
+            " chip={:02X} chipversion={:02X}",
+            controller.chip_type, controller.chip_version
+        )?;
+        Ok(answer.count as usize)
+    }
+
+    fn put_timeouts(&mut self, were: OldTimeouts) -> io::Result<usize> {
+        write!(self, "{} {}", were.rxack.0, were.rxbyte.0)?;
+        Ok(0)
+    }
+
+    // The call of an order, in the lent buffer, with what it answered.
+    fn put_call(&mut self, call: Call, order: &Order, lent: &mut [u8]) -> io::Result<usize> {
+        let bytes = order.bytes;
+        let written = match call {
+            Call::Read => {
+                return self.put_answer(read(bytes), |out, parts| out.put_parts(parts, bytes));
+            }
+            Call::Capabilities => {
+                return self.put_answer(read_capabilities(bytes), |out, answer| {
+                    out.put_capabilities(answer, bytes, lent)
+                });
+            }
+            Call::Nodes => {
+                let answer = read_nodes(bytes, lent);
+                return self.put_answer(answer, |out, answer| out.put_nodes(answer, lent));
+            }
+            Call::OldTimeouts => {
+                return self.put_answer(read_timeouts(bytes), |out, were| out.put_timeouts(were));
+            }
+            Call::Build => build(
+                spelt_at(bytes, 0),
+                spelt_at(bytes, 1),
+                behind(bytes, 2),
+                lent,
+            ),
+            Call::WriteCapabilities => {
+                write_capabilities(identity_of(bytes), behind(bytes, 8), lent)
+            }
+            Call::WriteNodes => write_nodes(controller_of(bytes), behind(bytes, 4), lent),
+            Call::Timeouts => set_timeouts(Millis(order.before), Millis(order.number), lent),
+            Call::WriteTimeouts => write_timeouts(Millis(order.before), Millis(order.number), lent),
+        };
+        self.put_answer(written, |out, count| out.put_written(count, lent))
+    }
+
+    // An order that needs no link, with its line of output.
+    pub fn put_order(&mut self, call: Call, order: &Order) -> io::Result<()> {
+        let mut space = [0; MOST];
+        fill(&mut space);
+        let n = within(order.room, &space);
+        let lent = &mut space[..n];
+        write!(self, "{call}")?;
+        let used = self.put_call(call, order, lent)?;
+        self.put_end(is_spilled(lent, used))
+    }
 }

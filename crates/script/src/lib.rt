@@ -1,14 +1,13 @@
-// What linkplay does without a link: the lines of a script are read by a table of verbs, the calls on frames and on command bodies carried out, and lines of output put together by their forms.
+// What linkplay does without a link: the lines of a script are read by the table of verbs, the calls on frames and on command bodies carried out, and lines of output put together.
 #![tactic(auto)]
 
 mod calls;
-mod form;
-mod number;
 mod order;
-mod printing;
+mod output;
 mod table;
+mod word;
 
-pub use calls::on_other;
-pub use form::say;
-pub use order::{Order, keep, order_of};
-pub use printing::{flush, is_broken, put_end};
+pub use order::{Malformed, Order, SPELT, order_of};
+pub use output::Output;
+pub use table::{Call, Verb};
+pub use word::{MOST, Word};

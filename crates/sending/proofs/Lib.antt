@@ -1,2 +1,1 @@
-mod Else
 pub mod Theorems

@@ -1,6 +1,6 @@
 -- Sections 5 and 6, sending and the session: what the open send or session does on an event, and at a restart.
 -- Assumes nothing.
-use Rattle.std.specs.Prelude.{ℕ, Bool, true, false}
+use Rattle.std.specs.Prelude.{ℕ, Bool, true, false, Option, Some, None}
 use Rattle.refusals.specs.Pick.{pick}
 use Rattle.rules.specs.Rules.{Rules}
 use Rattle.rules.specs.declared.Cause.TheVariants.{Told}
@@ -20,20 +20,18 @@ use Rattle.report.specs.declared.Sending.TheVariants as sending
 use Rattle.report.specs.declared.Session.{Session}
 use Rattle.report.specs.declared.Session.TheVariants as session
 use Rattle.report.specs.declared.Reset.TheVariants as reset
-use Rattle.job.specs.declared.job.Asking.{Asking}
-use Rattle.job.specs.declared.job.Asking.TheVariants.{Plain, Asks}
 use Rattle.job.specs.declared.job.Job.{Job}
 use Rattle.job.specs.declared.job.Job.TheVariants.{Idle, Due, Waiting, BackingOff, Awaiting}
 use Rattle.job.specs.declared.job.Act.{Act}
 
 -- 06 while waiting: acknowledged. A session stays open and waits for the response.
-abbrev pub acknowledge : Asking → ℕ → Act
-acknowledge Plain n = goes_on Idle (sending.Acknowledged n)
-acknowledge (Asks c) n =
+abbrev pub acknowledge : Option ℕ → ℕ → Act
+acknowledge None n = goes_on Idle (sending.Acknowledged n)
+acknowledge (Some c) n =
     record { job = Awaiting c n 0; sending = sending.Acknowledged n; session = session.Waiting; reset = reset.Nothing; copy = false }
 
 -- 06, 15 or 18 while waiting; such a byte comes while hunting
-abbrev pub on_answer : Rules → Single → Asking → ℕ → Act
+abbrev pub on_answer : Rules → Single → Option ℕ → ℕ → Act
 on_answer R Ack a n = acknowledge a n
 on_answer R Nak a n = lose R Told true a n
 on_answer R Can a n = lose R Told true a n
@@ -99,15 +97,15 @@ on_event R size TickInside j = on_tick R size false j
 on_event R size Aborted j = on_abort R size j
 
 -- Restart reports abandoned: in the sending part for an open send, in the session part alone for an open session.
-abbrev pub abandoned_send : Asking → Sending
-abandoned_send Plain = sending.Abandoned
-abandoned_send (Asks c) = sending.Nothing
+abbrev pub abandoned_send : Option ℕ → Sending
+abandoned_send None = sending.Abandoned
+abandoned_send (Some c) = sending.Nothing
 
-abbrev pub abandoned_ask : Asking → Session
-abandoned_ask Plain = session.Nothing
-abandoned_ask (Asks c) = session.Abandoned
+abbrev pub abandoned_ask : Option ℕ → Session
+abandoned_ask None = session.Nothing
+abandoned_ask (Some c) = session.Abandoned
 
-abbrev pub abandon : Asking → Act
+abbrev pub abandon : Option ℕ → Act
 abandon a = record { job = Idle; sending = abandoned_send a; session = abandoned_ask a; reset = reset.Nothing; copy = false }
 
 abbrev pub on_restart : Job → Act
@@ -115,4 +113,4 @@ on_restart Idle = still Idle
 on_restart (Due a n) = abandon a
 on_restart (Waiting a n e) = abandon a
 on_restart (BackingOff a n l) = abandon a
-on_restart (Awaiting c n e) = abandon (Asks c)
+on_restart (Awaiting c n e) = abandon (Some c)

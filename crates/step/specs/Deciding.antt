@@ -1,6 +1,6 @@
 -- What a call decides, on numbers, before a lent byte is written: what reception says, the run of bad sums, the job's act (sections 4 to 7).
 -- Assumes nothing.
-use Rattle.std.specs.Prelude.{ℕ, Bool, false}
+use Rattle.std.specs.Prelude.{ℕ, Bool, false, Option, Some, None}
 use Rattle.rules.specs.Rules.{Rules}
 use Rattle.hearing.specs.declared.hearing.Event.{Event}
 use Rattle.report.specs.declared.Reception.{Reception}
@@ -9,12 +9,11 @@ use Rattle.report.specs.declared.Reset.{Reset}
 use Rattle.report.specs.declared.Reset.TheVariants as reset
 use Rattle.reception.specs.Said.{saying, said_on}
 use Rattle.reception.specs.Sums.{run_of, sums_on}
-use Rattle.reception.specs.declared.said.Reply.TheVariants.{Silent, Nak}
+use Rattle.hearing.specs.declared.hearing.Single.TheVariants.{Nak}
 use Rattle.reception.specs.declared.said.Said.{Said}
 use Rattle.reception.specs.declared.sums.Sums.{Sums}
 use Rattle.job.specs.Job.{start}
 use Rattle.job.specs.declared.job.Act.{Act}
-use Rattle.job.specs.declared.job.Asking.{Asking}
 use Rattle.job.specs.declared.job.Job.{Job}
 use Rattle.job.specs.declared.job.Job.TheVariants.{Idle}
 use Rattle.sending.specs.Events.{awaited_by, on_event, on_restart}
@@ -47,10 +46,10 @@ decide R size e j bad = decided (said_on R.choice.role e (awaited_by j)) (sums_o
 
 -- an act with which reception has this much to say, and no byte of its own
 abbrev pub acted : Reception → ℕ → Act → Outcome
-acted r bad a = decided (saying r Silent 0) (run_of bad reset.Nothing) a
+acted r bad a = decided (saying r None 0) (run_of bad reset.Nothing) a
 
 -- An accepted send while hunting puts copy 1 out at once; inside a frame it is due.
-abbrev pub opening : Bool → Asking → ℕ → Outcome
+abbrev pub opening : Bool → Option ℕ → ℕ → Outcome
 opening hunting a bad = acted reception.Nothing bad (start hunting a 0)
 
 -- Restart puts out 15, makes the link fresh and reports abandoned.
@@ -63,7 +62,7 @@ restarting j =
       sending = (on_restart j).sending;
       session = (on_restart j).session;
       reset = reset.Nothing;
-      reply = Nak;
+      reply = Some Nak;
       copy = false;
       up = 0;
     }

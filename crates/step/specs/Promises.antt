@@ -8,8 +8,7 @@ use Rattle.report.specs.declared.Sending.{Sending}
 use Rattle.report.specs.declared.Sending.TheVariants as sending
 use Rattle.job.specs.declared.job.Job.{Job}
 use Rattle.job.specs.declared.job.Job.TheVariants.{Idle, Due, Waiting, BackingOff, Awaiting}
-use Rattle.step.specs.Checks.{room_checks, send_own, session_own}
-use Rattle.step.specs.declared.checks.Checked.{Checked}
+use Rattle.step.specs.Checks.{Checked, room_checks, send_own, session_own}
 
 abbrev pub send_checks : ℕ → ℕ → Job → ℕ → ℕ → Checked
 send_checks line up j kind n = room_checks line up (send_own j kind n)

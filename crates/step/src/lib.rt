@@ -5,6 +5,6 @@ mod checks;
 mod deciding;
 mod numbers;
 
-pub use checks::{Checked, lacks_room, send_checks, session_checks};
+pub use checks::{lacks_room, room, send_checks, session_checks};
 pub use deciding::{Outcome, decide, decide_tick, either, opening, restarting};
 pub use numbers::Core;

@@ -6,7 +6,7 @@ use hearing::Hearing;
 use job::Job;
 use rules::Choice;
 
-#[derive(Clone, Copy)]
+#[derive(Clone, Copy, Debug, PartialEq, Eq)]
 pub struct Core {
     pub hearing: Hearing,
     pub job: Job,
@@ -27,7 +27,7 @@ impl Core {
             hearing: Hearing::Hunting,
             job: Job::Idle,
             bad: 0,
-            choice: choice,
+            choice,
             size: 0,
         }
     }

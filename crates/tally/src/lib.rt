@@ -4,10 +4,10 @@
 ghost use Rattle.std.specs.Prelude.{◌≡◌};
 ghost use Rattle.tally.specs.Tally as spec;
 
-use hearing::{End, Event, Hearing, Single};
+use hearing::{End, Event, Heard, Hearing, Single};
 
 // How many of each, in the order printed.
-#[derive(Clone, Copy)]
+#[derive(Clone, Copy, Debug, Default, PartialEq, Eq)]
 pub struct Counts {
     pub ack: u64,
     pub nak: u64,
@@ -26,100 +26,61 @@ pub struct Tally {
     pub counts: Counts,
 }
 
-// Before the first byte.
-pub fn fresh() -> Tally
-    ensures { result ≡ spec.fresh }
-{
-    let counts = Counts {
-        ack: 0,
-        nak: 0,
-        can: 0,
-        frames: 0,
-        badsum: 0,
-        badlen: 0,
-        reserved: 0,
-        skipped: 0,
-    };
-    Tally {
-        hearing: Hearing::Hunting,
-        counts: counts,
-    }
-}
-
 // One more. A caller may hand in any counts, so the largest number stays: that way every call is total, and the sum never wraps.
 // A count gets at most 1 for each byte, so none that began at 0 meets this below 2^64 bytes, and section 9 ends at 2^24.
-pub fn one_more(n: u64) -> u64
-    ensures { result ≡ spec.one_more n }
+pub fn one_more(count: &mut u64)
+    ensures { count.new ≡ spec.one_more count.old }
 {
-    if n < 18446744073709551615 {
-        return n + 1;
-    }
-    n
+    *count = count.saturating_add(1);
 }
 
-fn count_single(mut counts: Counts, single: Single) -> Counts
-    ensures { result ≡ spec.added (spec.single_column single) counts }
-{
-    match single {
-        Single::Ack => counts.ack = one_more(counts.ack),
-        Single::Nak => counts.nak = one_more(counts.nak),
-        Single::Can => counts.can = one_more(counts.can),
-    }
-    counts
-}
-
-fn count_end(mut counts: Counts, end: End) -> Counts
-    ensures { result ≡ spec.added (spec.end_column end) counts }
-{
-    match end {
-        End::Request { size: _ }
-        | End::Response {
-            size: _,
-            command: _,
-        } => counts.frames = one_more(counts.frames),
-        End::BadSum => counts.badsum = one_more(counts.badsum),
-        End::BadLength => counts.badlen = one_more(counts.badlen),
-        End::Reserved => counts.reserved = one_more(counts.reserved),
-    }
-    counts
-}
-
-fn count_event(mut counts: Counts, event: Event) -> Counts
-    ensures { result ≡ spec.added (spec.column event) counts }
-{
-    match event {
-        Event::Alone(single) => count_single(counts, single),
-        Event::Ended(end) => count_end(counts, end),
-        Event::Skipped => {
-            counts.skipped = one_more(counts.skipped);
-            counts
+impl Counts {
+    // One more in the column of this event, if it has one.
+    fn count_event(&mut self, event: Event)
+        ensures { self.new ≡ spec.added (spec.column event) self.old }
+    {
+        match event {
+            Event::Alone(Single::Ack) => one_more(&mut self.ack),
+            Event::Alone(Single::Nak) => one_more(&mut self.nak),
+            Event::Alone(Single::Can) => one_more(&mut self.can),
+            Event::Ended(End::Request { .. } | End::Response { .. }) => one_more(&mut self.frames),
+            Event::Ended(End::BadSum) => one_more(&mut self.badsum),
+            Event::Ended(End::BadLength) => one_more(&mut self.badlen),
+            Event::Ended(End::Reserved) => one_more(&mut self.reserved),
+            Event::Skipped => one_more(&mut self.skipped),
+            _ => {}
         }
-        _ => counts,
     }
 }
 
-// The tally with one byte more.
-pub fn count_byte(tally: Tally, b: u8) -> Tally
-    ensures { result ≡ spec.count_byte b tally }
-{
-    let hearing = tally.hearing;
-    let heard = hearing::hear_byte(hearing, b);
-    let event = heard.event;
-    let after = heard.hearing;
-    let counts = count_event(tally.counts, event);
-    Tally {
-        hearing: after,
-        counts: counts,
+impl Tally {
+    // Before the first byte.
+    pub fn fresh() -> Tally
+        ensures { result ≡ spec.fresh }
+    {
+        Tally {
+            hearing: Hearing::Hunting,
+            counts: Counts::default(),
+        }
     }
-}
 
-// How many bytes of an unfinished frame have come.
-pub fn open_bytes(hearing: Hearing) -> u64
-    ensures { result ≡ spec.open_bytes hearing }
-{
-    match hearing {
-        Hearing::Hunting => 0,
-        Hearing::Head { clock: _ } => 1,
-        Hearing::Body(p) => (p.at as u64) + 2,
+    // One byte more.
+    pub fn count_byte(&mut self, b: u8)
+        ensures { self.new ≡ spec.count_byte b self.old }
+    {
+        let Heard { hearing, event } = self.hearing.hear_byte(b);
+        self.hearing = hearing;
+        self.counts.count_event(event);
+    }
+
+    // How many bytes of an unfinished frame have come.
+    pub fn open_bytes(&self) -> u64
+        ensures { result ≡ spec.open_bytes self.now.hearing }
+    {
+        match self.hearing {
+            Hearing::Hunting => 0,
+            Hearing::Head { .. } => 1,
+            Hearing::Body(p) => p.at as u64 + 2,
+        }
     }
 }

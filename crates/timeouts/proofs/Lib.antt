@@ -1,4 +1,3 @@
-pub mod Layouts
 pub mod Setting
 pub mod Writing
 pub mod Theorems

@@ -16,85 +16,78 @@ use Prim.Native.Nat.{ℕ, ◌/◌, ◌%◌, ◌≤◌}
 use native.Mathlib.Omega.{arith}
 use lib.ListN.{length, take, drop, replicate}
 use lib.Dec.{ltb, eqb}
+use Rattle.std.specs.Prelude.{Result, Ok, Err}
 use Rattle.refusals.specs.Pick.{pick}
 use Rattle.frame.specs.Bytes.{fold}
 use Rattle.frame.specs.Frame.{frame_of}
 use Rattle.frame.specs.Builder.{built_told, Build}
 use Rattle.refusals.specs.declared.Refusal.{Refusal}
 use Rattle.refusals.specs.declared.Refusal.TheVariants as refusal
-use Rattle.frame.specs.declared.builder.Built.{Built}
-use Rattle.frame.specs.declared.builder.Built.TheVariants as built
-use Rattle.refusals.proofs.Picks.{through, through_by}
+use Rattle.refusals.proofs.Picks.{through, through_by, err_not_ok, refused_by}
 use Rattle.refusals.proofs.Theorems.{fixed}
 use Rattle.frame.proofs.Theorems.{build_accepts}
 use Rattle.reading.specs.Reader.{read, parameters_of}
-use Rattle.reading.specs.declared.reader.Reading.TheVariants.{Parts}
 use Rattle.reading.proofs.Theorems.{build_reads}
 use Rattle.masks.specs.Written.{written_told, Write}
-use Rattle.masks.specs.declared.written.Written.{Written}
-use Rattle.masks.specs.declared.written.Written.TheVariants as written
 use Rattle.masks.proofs.Theorems.{write_taken, refuses_alike, written_stands}
 use Rattle.units.specs.Units.{ticks_of}
 use Rattle.units.specs.declared.Millis.{Millis}
 use Rattle.units.specs.declared.Ticks10.{Ticks10}
-use Rattle.units.specs.declared.Converted.{Converted}
-use Rattle.units.specs.declared.Converted.TheVariants as converted
 use Rattle.units.proofs.Theorems.{millis_back}
 use Rattle.timeouts.specs.Timeouts.{ticks_for, set_of, SetTimeouts, is_old_timeouts, time_at, old_told, read_timeouts}
 use Rattle.timeouts.specs.Writer.{timeouts_written, WriteTimeouts}
 use Rattle.timeouts.specs.declared.OldTimeouts.{OldTimeouts}
-use Rattle.timeouts.specs.declared.OldTimeouts.TheVariants as old
 use Rattle.timeouts.proofs.Setting.{set_answer, set_left}
 use Rattle.timeouts.proofs.Writing.{written_answer, written_left}
 
 -- ---- Section 12: each promise determines its answer and every lent byte after the call, refusals too
 
-pub set_timeouts_determined : {rxack rxbyte : Millis} {lent : List ℕ} {r q : Built} {l m : List ℕ}
+pub set_timeouts_determined : {rxack rxbyte : Millis} {lent : List ℕ} {r q : Result ℕ Refusal} {l m : List ℕ}
     → SetTimeouts rxack rxbyte lent r l → SetTimeouts rxack rxbyte lent q m → (r ≡ q) × (l ≡ m)
 set_timeouts_determined a b = (fixed a.answer b.answer, fixed a.left b.left)
 
-pub read_timeouts_determined : (body : List ℕ) {r q : OldTimeouts} → r ≡ read_timeouts body → q ≡ read_timeouts body → r ≡ q
+pub read_timeouts_determined : (body : List ℕ) {r q : Result OldTimeouts Refusal} → r ≡ read_timeouts body → q ≡ read_timeouts body → r ≡ q
 read_timeouts_determined body = fixed
 
-pub write_timeouts_determined : {rxack rxbyte : Millis} {lent : List ℕ} {r q : Written} {l m : List ℕ}
+pub write_timeouts_determined : {rxack rxbyte : Millis} {lent : List ℕ} {r q : Result ℕ Refusal} {l m : List ℕ}
     → WriteTimeouts rxack rxbyte lent r l → WriteTimeouts rxack rxbyte lent q m → (r ≡ q) × (l ≡ m)
 write_timeouts_determined a b = (fixed a.answer b.answer, fixed a.left b.left)
 
 -- ---- timeouts
 
-module _ (rxack rxbyte : Millis) (a b : Ticks10) (p : ticks_of rxack ≡ converted.Ticks a) (q : ticks_of rxbyte ≡ converted.Ticks b) where
+module _ (rxack rxbyte : Millis) (a b : Ticks10) (p : ticks_of rxack ≡ Ok a) (q : ticks_of rxbyte ≡ Ok b) where
   -- the frame is the one that `build` gives for REQ 06 with the two numbers of ticks
-  pub set_builds : (lent : List ℕ) (r : Built) (lent' : List ℕ) → SetTimeouts rxack rxbyte lent r lent' → Build 0 6 (a.0 ∷ b.0 ∷ []) lent r lent'
+  pub set_builds : (lent : List ℕ) (r : Result ℕ Refusal) (lent' : List ℕ) → SetTimeouts rxack rxbyte lent r lent' → Build 0 6 (a.0 ∷ b.0 ∷ []) lent r lent'
   set_builds lent r lent' s = record {
-    answer = s.answer ∙ set_answer rxack rxbyte lent (converted.Ticks a) (converted.Ticks b) p q;
-    left = s.left ∙ set_left rxack rxbyte lent (converted.Ticks a) (converted.Ticks b) p q;
+    answer = s.answer ∙ set_answer rxack rxbyte lent (Ok a) (Ok b) p q;
+    left = s.left ∙ set_left rxack rxbyte lent (Ok a) (Ok b) p q;
   }
 
   -- its RES with the same ticks is answered as the same times
-  pub timeouts_back : read_timeouts (1 ∷ 6 ∷ a.0 ∷ b.0 ∷ []) ≡ old.Were rxack rxbyte
-  timeouts_back = ap₂ (λ (x y : Millis). old.Were x y) (millis_back rxack a p).0 (millis_back rxbyte b q).0
+  pub timeouts_back : read_timeouts (1 ∷ 6 ∷ a.0 ∷ b.0 ∷ []) ≡ Ok (record { rxack = rxack; rxbyte = rxbyte })
+  timeouts_back = ap₂ (λ (x y : Millis). Ok (record { rxack = x; rxbyte = y })) (millis_back rxack a p).0 (millis_back rxbyte b q).0
 
 -- what was written for two times, read back
 pub record ReadsBack (rxack rxbyte : Millis) (lent : List ℕ) (m : ℕ) (lent' : List ℕ) : Type 0 where
   pub size : m ≡ 7
-  pub parts : read (take m lent') ≡ Parts 0 6 2
+  pub parts : read (take m lent') ≡ Ok (record { kind = 0; command = 6; count = 2 })
   pub first : time_at (parameters_of (take m lent') 2) 0 ≡ rxack
   pub second : time_at (parameters_of (take m lent') 2) 1 ≡ rxbyte
   pub beyond : drop m lent' ≡ drop m lent
 
 -- a frame that was written reads as REQ 06 with the two times; bytes beyond it stay
-pub set_reads : (rxack rxbyte : Millis) (lent : List ℕ) (m : ℕ) (lent' : List ℕ) → SetTimeouts rxack rxbyte lent (built.Frame m) lent'
+pub set_reads : (rxack rxbyte : Millis) (lent : List ℕ) (m : ℕ) (lent' : List ℕ) → SetTimeouts rxack rxbyte lent (Ok m) lent'
     → ReadsBack rxack rxbyte lent m lent'
 set_reads rxack rxbyte lent m lent' s = by (ticks_of rxack) (ticks_of rxbyte) refl refl
   where
-    no : built.Frame m ≡ built.Refused refusal.Range → ReadsBack rxack rxbyte lent m lent'
-    no e = let z : ◌≡◌ {A = ℕ} 0 1 = cc in absurd (omega arith)
+    no : ◌≡◌ {A = Result ℕ Refusal} (Ok m) (Err refusal.Range) → ReadsBack rxack rxbyte lent m lent'
+    no e = absurd (err_not_ok (sym e))
 
-    by : (x y : Converted) → ticks_of rxack ≡ x → ticks_of rxbyte ≡ y → ReadsBack rxack rxbyte lent m lent'
-    by (converted.Refused k) y p q = no (s.answer ∙ set_answer rxack rxbyte lent (converted.Refused k) y p q)
-    by (converted.Ticks a) (converted.Refused k) p q = no (s.answer ∙ set_answer rxack rxbyte lent (converted.Ticks a) (converted.Refused k) p q)
-    by (converted.Ticks a) (converted.Ticks b) p q =
-        let built = set_builds rxack rxbyte a b p q lent (built.Frame m) lent' s in
+    by : (x y : Result Ticks10 Refusal) → ticks_of rxack ≡ x → ticks_of rxbyte ≡ y → ReadsBack rxack rxbyte lent m lent'
+    by (Err k) y p q = no (s.answer ∙ set_answer rxack rxbyte lent (Err k) y p q)
+    by (Ok a) (Err k) p q = no (s.answer ∙ set_answer rxack rxbyte lent (Ok a) (Err k) p q)
+    by (Ok a) (Ok b) p q =
+        let built = set_builds rxack rxbyte a b p q lent (Ok m) lent' s in
         let reads = build_reads 0 6 (a.0 ∷ b.0 ∷ []) lent m lent' built in
         record {
           size = (build_accepts 0 2 (length lent) m (sym built.answer)).3;
@@ -108,26 +101,26 @@ set_reads rxack rxbyte lent m lent' s = by (ticks_of rxack) (ticks_of rxbyte) re
 
 pub timeouts_told : (body : List ℕ)
     → old_told (read_timeouts body) ≡ pick (is_old_timeouts body) (0 ∷ (time_at body 2).0 ∷ (time_at body 3).0 ∷ []) (10 ∷ [])
-timeouts_told body = through old_told (is_old_timeouts body) (old.Were (time_at body 2) (time_at body 3)) (old.Refused refusal.Form)
+timeouts_told body = through old_told (is_old_timeouts body) (Ok (record { rxack = time_at body 2; rxbyte = time_at body 3 })) (Err refusal.Form)
 
 -- RANGE, then ROOM
-pub set_range : (k : Refusal) (a : Ticks10) (y : Converted) (room : ℕ)
-    → (built_told (set_of (converted.Refused k) y room) ≡ 11 ∷ []) × (built_told (set_of (converted.Ticks a) (converted.Refused k) room) ≡ 11 ∷ [])
+pub set_range : (k : Refusal) (a : Ticks10) (y : Result Ticks10 Refusal) (room : ℕ)
+    → (built_told (set_of (Err k) y room) ≡ 11 ∷ []) × (built_told (set_of (Ok a) (Err k) room) ≡ 11 ∷ [])
 set_range k a y room = (refl, refl)
 
-pub set_room : (a b : Ticks10) (room : ℕ) → built_told (set_of (converted.Ticks a) (converted.Ticks b) room) ≡ pick (ltb room 7) (1 ∷ []) (0 ∷ 7 ∷ [])
-set_room a b room = through built_told (ltb room 7) (built.Refused refusal.Room) (built.Frame 7)
+pub set_room : (a b : Ticks10) (room : ℕ) → built_told (set_of (Ok a) (Ok b) room) ≡ pick (ltb room 7) (1 ∷ []) (0 ∷ 7 ∷ [])
+set_room a b room = through built_told (ltb room 7) (Err refusal.Room) (Ok 7)
 
 -- the second time, where the first is so many ticks
 set_told_by : (rxbyte : Millis) (room : ℕ) (t : Ticks10)
-    → built_told (set_of (converted.Ticks t) (ticks_of rxbyte) room)
+    → built_told (set_of (Ok t) (ticks_of rxbyte) room)
     ≡ pick (ltb 2550 rxbyte.0) (11 ∷ []) (pick (eqb (rxbyte.0 % 10) 0) (pick (ltb room 7) (1 ∷ []) (0 ∷ 7 ∷ [])) (11 ∷ []))
 set_told_by rxbyte room t =
-    let f : Converted → List ℕ = λ (y : Converted). built_told (set_of (converted.Ticks t) y room) in
+    let f : Result Ticks10 Refusal → List ℕ = λ (y : Result Ticks10 Refusal). built_told (set_of (Ok t) y room) in
     through_by f (ltb 2550 rxbyte.0) refl (through_by f (eqb (rxbyte.0 % 10) 0) (set_room t (record { 0 = rxbyte.0 / 10 }) room) refl)
 
 -- of the promise: a time above 2,550 ms or no multiple of 10 is RANGE, then ROOM below 7 bytes, else a frame of 7
-pub set_told : {rxack rxbyte : Millis} {lent : List ℕ} {r : Built} {lent' : List ℕ} → SetTimeouts rxack rxbyte lent r lent'
+pub set_told : {rxack rxbyte : Millis} {lent : List ℕ} {r : Result ℕ Refusal} {lent' : List ℕ} → SetTimeouts rxack rxbyte lent r lent'
     → built_told r
     ≡ pick (ltb 2550 rxack.0) (11 ∷ [])
     (pick (eqb (rxack.0 % 10) 0)
@@ -137,25 +130,25 @@ pub set_told : {rxack rxbyte : Millis} {lent : List ℕ} {r : Built} {lent' : Li
     (11 ∷ [])))
     (11 ∷ []))
 set_told {rxack} {rxbyte} {lent} s =
-    let f : Converted → List ℕ = λ (x : Converted). built_told (set_of x (ticks_of rxbyte) (length lent)) in
+    let f : Result Ticks10 Refusal → List ℕ = λ (x : Result Ticks10 Refusal). built_told (set_of x (ticks_of rxbyte) (length lent)) in
     ap built_told s.answer
     ∙ through_by f (ltb 2550 rxack.0) refl
     (through_by f (eqb (rxack.0 % 10) 0) (set_told_by rxbyte (length lent) (record { 0 = rxack.0 / 10 })) refl)
 
 -- of the response too: RANGE, then ROOM below 254 bytes, else a body of 4
-pub write_range : (k : Refusal) (a : Ticks10) (y : Converted) (room : ℕ)
-    → (written_told (timeouts_written (converted.Refused k) y room) ≡ 11 ∷ []) × (written_told (timeouts_written (converted.Ticks a) (converted.Refused k) room) ≡ 11 ∷ [])
+pub write_range : (k : Refusal) (a : Ticks10) (y : Result Ticks10 Refusal) (room : ℕ)
+    → (written_told (timeouts_written (Err k) y room) ≡ 11 ∷ []) × (written_told (timeouts_written (Ok a) (Err k) room) ≡ 11 ∷ [])
 write_range k a y room = (refl, refl)
 
 write_told_by : (rxbyte : Millis) (room : ℕ) (t : Ticks10)
-    → written_told (timeouts_written (converted.Ticks t) (ticks_of rxbyte) room)
+    → written_told (timeouts_written (Ok t) (ticks_of rxbyte) room)
     ≡ pick (ltb 2550 rxbyte.0) (11 ∷ []) (pick (eqb (rxbyte.0 % 10) 0) (pick (ltb room 254) (1 ∷ []) (0 ∷ 4 ∷ [])) (11 ∷ []))
 write_told_by rxbyte room t =
-    let f : Converted → List ℕ = λ (y : Converted). written_told (timeouts_written (converted.Ticks t) y room) in
+    let f : Result Ticks10 Refusal → List ℕ = λ (y : Result Ticks10 Refusal). written_told (timeouts_written (Ok t) y room) in
     through_by f (ltb 2550 rxbyte.0) refl
-    (through_by f (eqb (rxbyte.0 % 10) 0) (through written_told (ltb room 254) (written.Refused refusal.Room) (written.Body 4)) refl)
+    (through_by f (eqb (rxbyte.0 % 10) 0) (through written_told (ltb room 254) (Err refusal.Room) (Ok 4)) refl)
 
-pub write_timeouts_told : {rxack rxbyte : Millis} {lent : List ℕ} {r : Written} {lent' : List ℕ} → WriteTimeouts rxack rxbyte lent r lent'
+pub write_timeouts_told : {rxack rxbyte : Millis} {lent : List ℕ} {r : Result ℕ Refusal} {lent' : List ℕ} → WriteTimeouts rxack rxbyte lent r lent'
     → written_told r
     ≡ pick (ltb 2550 rxack.0) (11 ∷ [])
     (pick (eqb (rxack.0 % 10) 0)
@@ -165,7 +158,7 @@ pub write_timeouts_told : {rxack rxbyte : Millis} {lent : List ℕ} {r : Written
     (11 ∷ [])))
     (11 ∷ []))
 write_timeouts_told {rxack} {rxbyte} {lent} s =
-    let f : Converted → List ℕ = λ (x : Converted). written_told (timeouts_written x (ticks_of rxbyte) (length lent)) in
+    let f : Result Ticks10 Refusal → List ℕ = λ (x : Result Ticks10 Refusal). written_told (timeouts_written x (ticks_of rxbyte) (length lent)) in
     ap written_told s.answer
     ∙ through_by f (ltb 2550 rxack.0) refl
     (through_by f (eqb (rxack.0 % 10) 0) (write_told_by rxbyte (length lent) (record { 0 = rxack.0 / 10 })) refl)
@@ -173,59 +166,51 @@ write_timeouts_told {rxack} {rxbyte} {lent} s =
 -- ---- Section 10
 
 -- REQ 06 with 96 0F (1,500 and 150 ms)
-pub timeouts_example : (r : Built) (lent' : List ℕ) → SetTimeouts (record { 0 = 1500 }) (record { 0 = 150 }) (replicate 7 0) r lent'
-    → (r ≡ built.Frame 7) × (lent' ≡ 1 ∷ 5 ∷ 0 ∷ 6 ∷ 150 ∷ 15 ∷ 101 ∷ [])
+pub timeouts_example : (r : Result ℕ Refusal) (lent' : List ℕ) → SetTimeouts (record { 0 = 1500 }) (record { 0 = 150 }) (replicate 7 0) r lent'
+    → (r ≡ Ok 7) × (lent' ≡ 1 ∷ 5 ∷ 0 ∷ 6 ∷ 150 ∷ 15 ∷ 101 ∷ [])
 unfolding frame_of fold
 timeouts_example r lent' s = (s.answer, s.left)
 
 -- 2,550 ms is 255: FF stands in both places of the frame that is left in 7 lent bytes. 2,560 and 1,505 are RANGE.
-pub range_edges : (set_of (ticks_of (record { 0 = 2550 })) (ticks_of (record { 0 = 2550 })) 7 ≡ built.Frame 7)
+pub range_edges : (set_of (ticks_of (record { 0 = 2550 })) (ticks_of (record { 0 = 2550 })) 7 ≡ Ok 7)
     × (ticks_for (ticks_of (record { 0 = 2550 })) (ticks_of (record { 0 = 2550 })) ≡ 255 ∷ 255 ∷ [])
-    × ((a b c d e f g : ℕ) (r : Built) (lent' : List ℕ)
+    × ((a b c d e f g : ℕ) (r : Result ℕ Refusal) (lent' : List ℕ)
     → SetTimeouts (record { 0 = 2550 }) (record { 0 = 2550 }) (a ∷ b ∷ c ∷ d ∷ e ∷ f ∷ g ∷ []) r lent'
-    → (r ≡ built.Frame 7) × (lent' ≡ 1 ∷ 5 ∷ 0 ∷ 6 ∷ 255 ∷ 255 ∷ 252 ∷ []))
-    × (set_of (ticks_of (record { 0 = 2560 })) (ticks_of (record { 0 = 150 })) 7 ≡ built.Refused refusal.Range)
-    × (set_of (ticks_of (record { 0 = 150 })) (ticks_of (record { 0 = 1505 })) 7 ≡ built.Refused refusal.Range)
+    → (r ≡ Ok 7) × (lent' ≡ 1 ∷ 5 ∷ 0 ∷ 6 ∷ 255 ∷ 255 ∷ 252 ∷ []))
+    × (set_of (ticks_of (record { 0 = 2560 })) (ticks_of (record { 0 = 150 })) 7 ≡ Err refusal.Range)
+    × (set_of (ticks_of (record { 0 = 150 })) (ticks_of (record { 0 = 1505 })) 7 ≡ Err refusal.Range)
 unfolding frame_of fold
 range_edges = (refl, refl, λ a b c d e f g r lent' s. (s.answer, s.left), refl, refl)
 
 -- ---- Document 02, P5: what is written
 
 -- two times of ticks: the body with them, if its reader takes it
-pub times_written : (rxack rxbyte : Millis) (a b : Ticks10) → ticks_of rxack ≡ converted.Ticks a → ticks_of rxbyte ≡ converted.Ticks b
-    → (lent : List ℕ) (r : Written) (lent' : List ℕ) → WriteTimeouts rxack rxbyte lent r lent'
+pub times_written : (rxack rxbyte : Millis) (a b : Ticks10) → ticks_of rxack ≡ Ok a → ticks_of rxbyte ≡ Ok b
+    → (lent : List ℕ) (r : Result ℕ Refusal) (lent' : List ℕ) → WriteTimeouts rxack rxbyte lent r lent'
     → Write (is_old_timeouts (1 ∷ 6 ∷ a.0 ∷ b.0 ∷ [])) (1 ∷ 6 ∷ a.0 ∷ b.0 ∷ []) lent r lent'
 times_written rxack rxbyte a b p q lent r lent' s = record {
-  answer = s.answer ∙ written_answer rxack rxbyte lent (converted.Ticks a) (converted.Ticks b) p q;
-  left = s.left ∙ written_left rxack rxbyte lent (converted.Ticks a) (converted.Ticks b) p q;
+  answer = s.answer ∙ written_answer rxack rxbyte lent (Ok a) (Ok b) p q;
+  left = s.left ∙ written_left rxack rxbyte lent (Ok a) (Ok b) p q;
 }
 
 -- RANGE is said of the same times as in the frame that sets them, whatever the room of either
-pub range_alike : (x y : Converted) (room other : ℕ) → (timeouts_written x y room ≡ written.Refused refusal.Range) ↔ (set_of x y other ≡ built.Refused refusal.Range)
-range_alike (converted.Refused k) y room other = (λ e. refl, λ e. refl)
-range_alike (converted.Ticks a) (converted.Refused k) room other = (λ e. refl, λ e. refl)
-range_alike (converted.Ticks a) (converted.Ticks b) room other = (λ e. absurd (not_written (ltb room 254) e), λ e. absurd (not_set (ltb other 7) e))
+pub range_alike : (x y : Result Ticks10 Refusal) (room other : ℕ) → (timeouts_written x y room ≡ Err refusal.Range) ↔ (set_of x y other ≡ Err refusal.Range)
+range_alike (Err k) y room other = (λ e. refl, λ e. refl)
+range_alike (Ok a) (Err k) room other = (λ e. refl, λ e. refl)
+range_alike (Ok a) (Ok b) room other = (λ e. absurd (not_range (ltb room 254) 4 e), λ e. absurd (not_range (ltb other 7) 7 e))
   where
-    not_written : (t : Bool) → pick t (written.Refused refusal.Room) (written.Body 4) ≡ written.Refused refusal.Range → ⊥
-    not_written true e = let z : ◌≡◌ {A = ℕ} 0 1 = cc in omega arith
-    not_written false e = let z : ◌≡◌ {A = ℕ} 0 1 = cc in omega arith
-
-    not_set : (t : Bool) → pick t (built.Refused refusal.Room) (built.Frame 7) ≡ built.Refused refusal.Range → ⊥
-    not_set true e = let z : ◌≡◌ {A = ℕ} 0 1 = cc in omega arith
-    not_set false e = let z : ◌≡◌ {A = ℕ} 0 1 = cc in omega arith
+    not_range : (t : Bool) (n : ℕ) → ◌≡◌ {A = Result ℕ Refusal} (pick t (Err refusal.Room) (Ok n)) (Err refusal.Range) → ⊥
+    not_range true n e = let z : ◌≡◌ {A = ℕ} 0 1 = cc in omega arith
+    not_range false n e = err_not_ok (sym e)
 
 -- the reader refuses by FORM alone
-reads_refused : (body : List ℕ) (k : Refusal) → (read_timeouts body ≡ old.Refused k) ↔ ((is_old_timeouts body ≡ false) × (k ≡ refusal.Form))
-reads_refused body k = by (is_old_timeouts body)
-  where
-    by : (t : Bool) → (pick t (old.Were (time_at body 2) (time_at body 3)) (old.Refused refusal.Form) ≡ old.Refused k) ↔ ((t ≡ false) × (k ≡ refusal.Form))
-    by true = (λ e. let z : ◌≡◌ {A = ℕ} 0 1 = cc in absurd (omega arith), λ e. let z : ◌≡◌ {A = ℕ} 0 1 = cc in absurd (omega arith))
-    by false = (λ e. (refl, cc), λ e. ap old.Refused (sym e.1))
+reads_refused : (body : List ℕ) (k : Refusal) → (read_timeouts body ≡ Err k) ↔ ((is_old_timeouts body ≡ false) × (k ≡ refusal.Form))
+reads_refused body k = refused_by (is_old_timeouts body) (record { rxack = time_at body 2; rxbyte = time_at body 3 }) refusal.Form k
 
 -- with room the writer refuses what its reader refuses, and by the same refusal: where both times are ticks, nothing
-pub timeouts_alike : (rxack rxbyte : Millis) (a b : Ticks10) → ticks_of rxack ≡ converted.Ticks a → ticks_of rxbyte ≡ converted.Ticks b
-    → (lent : List ℕ) (r : Written) (lent' : List ℕ) → WriteTimeouts rxack rxbyte lent r lent' → 254 ≤ length lent
-    → ((k : Refusal) → (r ≡ written.Refused k) ↔ (read_timeouts (1 ∷ 6 ∷ a.0 ∷ b.0 ∷ []) ≡ old.Refused k)) × (r ≡ written.Body 4)
+pub timeouts_alike : (rxack rxbyte : Millis) (a b : Ticks10) → ticks_of rxack ≡ Ok a → ticks_of rxbyte ≡ Ok b
+    → (lent : List ℕ) (r : Result ℕ Refusal) (lent' : List ℕ) → WriteTimeouts rxack rxbyte lent r lent' → 254 ≤ length lent
+    → ((k : Refusal) → (r ≡ Err k) ↔ (read_timeouts (1 ∷ 6 ∷ a.0 ∷ b.0 ∷ []) ≡ Err k)) × (r ≡ Ok 4)
 timeouts_alike rxack rxbyte a b p q lent r lent' s room =
     let body : List ℕ = 1 ∷ 6 ∷ a.0 ∷ b.0 ∷ [] in
     let w = times_written rxack rxbyte a b p q lent r lent' s in (
@@ -239,19 +224,19 @@ timeouts_alike rxack rxbyte a b p q lent r lent' s room =
 -- what was written for two times, read back
 pub record TimeoutsBack (rxack rxbyte : Millis) (lent : List ℕ) (n : ℕ) (lent' : List ℕ) : Type 0 where
   pub size : n ≡ 4
-  pub answer : read_timeouts (take n lent') ≡ old.Were rxack rxbyte
+  pub answer : read_timeouts (take n lent') ≡ Ok (record { rxack = rxack; rxbyte = rxbyte })
   pub beyond : drop n lent' ≡ drop n lent
 
-pub written_timeouts_back : (rxack rxbyte : Millis) (lent : List ℕ) (n : ℕ) (lent' : List ℕ) → WriteTimeouts rxack rxbyte lent (written.Body n) lent'
+pub written_timeouts_back : (rxack rxbyte : Millis) (lent : List ℕ) (n : ℕ) (lent' : List ℕ) → WriteTimeouts rxack rxbyte lent (Ok n) lent'
     → TimeoutsBack rxack rxbyte lent n lent'
 written_timeouts_back rxack rxbyte lent n lent' s = by (ticks_of rxack) (ticks_of rxbyte) refl refl
   where
-    no : written.Body n ≡ written.Refused refusal.Range → TimeoutsBack rxack rxbyte lent n lent'
-    no e = let z : ◌≡◌ {A = ℕ} 0 1 = cc in absurd (omega arith)
+    no : ◌≡◌ {A = Result ℕ Refusal} (Ok n) (Err refusal.Range) → TimeoutsBack rxack rxbyte lent n lent'
+    no e = absurd (err_not_ok (sym e))
 
-    by : (x y : Converted) → ticks_of rxack ≡ x → ticks_of rxbyte ≡ y → TimeoutsBack rxack rxbyte lent n lent'
-    by (converted.Refused k) y p q = no (s.answer ∙ written_answer rxack rxbyte lent (converted.Refused k) y p q)
-    by (converted.Ticks a) (converted.Refused k) p q = no (s.answer ∙ written_answer rxack rxbyte lent (converted.Ticks a) (converted.Refused k) p q)
-    by (converted.Ticks a) (converted.Ticks b) p q =
-        let stands = written_stands (times_written rxack rxbyte a b p q lent (written.Body n) lent' s) in
+    by : (x y : Result Ticks10 Refusal) → ticks_of rxack ≡ x → ticks_of rxbyte ≡ y → TimeoutsBack rxack rxbyte lent n lent'
+    by (Err k) y p q = no (s.answer ∙ written_answer rxack rxbyte lent (Err k) y p q)
+    by (Ok a) (Err k) p q = no (s.answer ∙ written_answer rxack rxbyte lent (Ok a) (Err k) p q)
+    by (Ok a) (Ok b) p q =
+        let stands = written_stands (times_written rxack rxbyte a b p q lent (Ok n) lent' s) in
         record { size = stands.size; answer = ap read_timeouts stands.front ∙ timeouts_back rxack rxbyte a b p q; beyond = stands.beyond }

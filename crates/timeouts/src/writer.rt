@@ -3,22 +3,18 @@ ghost use Rattle.timeouts.specs.Writer.{WriteTimeouts};
 
 use crate::{SET_TIMEOUTS, is_old_timeouts};
 use frame::RES;
-use masks::{Written, write_body};
+use masks::write_body;
 use refusals::Refusal;
-use units::{Converted, Millis, ticks_of};
+use units::{Millis, Ticks10};
 
-// Writes the body with these two times over the first of the lent bytes. Bytes beyond it stay; a refusal leaves all of them.
+// Writes the body with these two times over the first of the lent bytes, and answers its length. Bytes beyond it stay; a refusal leaves all of them.
 // A time that is no number of ticks is RANGE, before ROOM, as it is for the frame that sets the two.
-pub fn write_timeouts(rxack: Millis, rxbyte: Millis, lent: &mut [u8]) -> Written
+pub fn write_timeouts(rxack: Millis, rxbyte: Millis, lent: &mut [u8]) -> Result<u16, Refusal>
     ensures { WriteTimeouts rxack rxbyte lent.old result lent.new }
 {
-    let Converted::Ticks(ack) = ticks_of(rxack) else {
-        return Written::Refused(Refusal::Range);
-    };
-    let Converted::Ticks(byte) = ticks_of(rxbyte) else {
-        return Written::Refused(Refusal::Range);
-    };
+    let ack = Ticks10::try_from(rxack)?;
+    let byte = Ticks10::try_from(rxbyte)?;
+    // No `write_parts` and no `Layout`: this body has one part, so that there is nothing to join, and one caller.
     let body = [RES, SET_TIMEOUTS, ack.0, byte.0];
-    let reads = is_old_timeouts(&body);
-    write_body(reads, &body, lent)
+    write_body(is_old_timeouts(&body), &body, lent)
 }

@@ -1,27 +1,21 @@
 -- Bytes put behind what has been put: what `put_line` and `put_up` leave.
 -- Assumes nothing.
-use mathlib.Core.Path.{◌≡◌, refl, ap, ◌∙◌}
-use mathlib.Core.Bool.{Bool, true}
-use mathlib.Core.List.{List, [], ◌++◌}
+use mathlib.Core.Path.{◌≡◌, ap, ◌∙◌}
+use mathlib.Core.Bool.{Bool}
+use mathlib.Core.List.{List, ◌++◌}
 use Prim.Native.Nat.{ℕ, ◌+◌, ◌≤◌, min}
-use native.Mathlib.Nat.{min-le_right, zero-add}
+use native.Mathlib.Nat.{min-le_right}
 use native.Mathlib.Omega.{arith}
 use lib.ListN.{length, take, length-append, length-take}
 use borrow.Author.Tests.{lt-ltb, le-ltb}
 use Rattle.frame.specs.Bytes.{over}
 use Rattle.frame.specs.Promises.{Lay}
-use Rattle.frame.proofs.Over.{over_length, put_bytes, take_min, laid_in}
-use Rattle.reception.specs.declared.said.Reply.{Reply}
-use Rattle.reception.specs.declared.said.Reply.TheVariants.{Silent, Ack, Nak, Can}
-use Rattle.reception.specs.Said.{reply_bytes}
+use Rattle.std.proofs.lemmas.List.{take_min}
+use Rattle.frame.proofs.Over.{over_length, put_bytes, laid_in}
+use Rattle.hearing.specs.declared.hearing.Single.{Single}
+use Rattle.std.specs.Prelude.{Option}
 use Rattle.writing.specs.Writing.{line_bytes}
-use Rattle.writing.specs.Promises.{Put, byte_fits, PutLine, PutUp}
-
-pub reply_short : (r : Reply) → length (reply_bytes r) ≤ 1
-reply_short Silent = omega arith
-reply_short Ack = omega arith
-reply_short Nak = omega arith
-reply_short Can = omega arith
+use Rattle.writing.specs.Promises.{Put, PutLine, PutUp}
 
 -- the first bytes of src, laid right behind bs
 pub put_behind : (bs src lent : List ℕ) (size n at : ℕ) {lent₁ lent₂ : List ℕ} {r : Bool}
@@ -37,17 +31,8 @@ put_behind bs src lent size n at {lent₁} {lent₂} a l e room laid =
       left = whole ∙ ap (λ (s : List ℕ). over (bs ++ s) lent) (ap (λ (k : ℕ). take k src) e ∙ take_min size src);
     }
 
--- the first bytes of src, laid at the front
-pub put_front : (src lent : List ℕ) (size n : ℕ) {lent' : List ℕ} {r : Bool} → n ≡ min size (length src) → length src ≤ length lent
-    → Lay src n lent 0 r lent' → Put (take size src) lent n lent'
-put_front src lent size n e room laid =
-    simp zero-add at (put_behind [] src lent size n 0 refl refl e (omega arith) laid)
-
 -- there is room in the buffers that a call takes
-pub byte_fits_lem : (line : List ℕ) → 258 ≤ length line → byte_fits line ≡ true
-byte_fits_lem line h = simp (le-ltb (length line) 1 (omega (arith, h)))
-
-pub line_in : {reply : Reply} {copy : Bool} {size r : ℕ} {frame line line' : List ℕ} → PutLine reply copy size frame line r line'
+pub line_in : {reply : Option Single} {copy : Bool} {size r : ℕ} {frame line line' : List ℕ} → PutLine reply copy size frame line r line'
     → length frame ≡ 257 → 258 ≤ length line → Put (line_bytes reply copy size frame) line r line'
 line_in {line = line} p e h = simp (e, lt-ltb 257 (length line) h) at p.put
 

@@ -4,21 +4,22 @@
 --     line_determined   put_line
 --     up_determined     put_up
 -- Assumes nothing.
+use Rattle.std.specs.Prelude.{Option}
 use mathlib.Core.Path.{◌≡◌}
 use mathlib.Core.Bool.{Bool}
 use mathlib.Core.List.{List}
 use Prim.Native.Nat.{ℕ}
 use Rattle.refusals.proofs.Theorems.{fixed}
-use Rattle.reception.specs.declared.said.Reply.{Reply}
+use Rattle.hearing.specs.declared.hearing.Single.{Single}
 use Rattle.writing.specs.Promises.{Put, PutReply, PutLine, PutUp}
 
 pub put_determined : {bytes lent : List ℕ} {r q : ℕ} {a b : List ℕ} → Put bytes lent r a → Put bytes lent q b → (r ≡ q) × (a ≡ b)
 put_determined x y = (fixed x.count y.count, fixed x.left y.left)
 
-pub reply_determined : {reply : Reply} {line : List ℕ} {r q : ℕ} {a b : List ℕ} → PutReply reply line r a → PutReply reply line q b → (r ≡ q) × (a ≡ b)
+pub reply_determined : {reply : Option Single} {line : List ℕ} {r q : ℕ} {a b : List ℕ} → PutReply reply line r a → PutReply reply line q b → (r ≡ q) × (a ≡ b)
 reply_determined x y = put_determined x.put y.put
 
-pub line_determined : {reply : Reply} {copy : Bool} {size : ℕ} {frame line : List ℕ} {r q : ℕ} {a b : List ℕ}
+pub line_determined : {reply : Option Single} {copy : Bool} {size : ℕ} {frame line : List ℕ} {r q : ℕ} {a b : List ℕ}
     → PutLine reply copy size frame line r a → PutLine reply copy size frame line q b → (r ≡ q) × (a ≡ b)
 line_determined x y = put_determined x.put y.put
 

@@ -1,10 +1,10 @@
 -- What the writers of lent buffers promise: all of the bytes over the front where there is room for them, else none. A reader need not believe it: the link promises
 -- every lent byte by `over` and `line_bytes`.
 -- Assumes nothing.
-use Rattle.std.specs.Prelude.{ℕ, ◌≡◌, Bool, true, false, List, [], ltb, length, take}
+use Rattle.std.specs.Prelude.{ℕ, ◌≡◌, Bool, true, false, List, [], ltb, length, take, Option}
 use Rattle.frame.specs.Bytes.{over}
 use Rattle.refusals.specs.Pick.{pick}
-use Rattle.reception.specs.declared.said.Reply.{Reply}
+use Rattle.hearing.specs.declared.hearing.Single.{Single}
 use Rattle.frame.specs.Frame.{MAX_FRAME}
 use Rattle.reception.specs.Said.{reply_bytes}
 use Rattle.writing.specs.Writing.{line_bytes}
@@ -25,10 +25,10 @@ abbrev pub body_fits : List ℕ → List ℕ → Bool
 body_fits body up = pick (ltb (length up) (length body)) false true
 
 -- what goes on the line and what is handed up: all of it where there is room, else nothing
-pub record PutReply (reply : Reply) (line : List ℕ) (r : ℕ) (line' : List ℕ) : Type 0 where
+pub record PutReply (reply : Option Single) (line : List ℕ) (r : ℕ) (line' : List ℕ) : Type 0 where
   pub put : Put (pick (byte_fits line) (reply_bytes reply) []) line r line'
 
-pub record PutLine (reply : Reply) (copy : Bool) (size : ℕ) (frame line : List ℕ) (r : ℕ) (line' : List ℕ) : Type 0 where
+pub record PutLine (reply : Option Single) (copy : Bool) (size : ℕ) (frame line : List ℕ) (r : ℕ) (line' : List ℕ) : Type 0 where
   pub put : Put (pick (copy_fits frame line) (line_bytes reply copy size frame) []) line r line'
 
 pub record PutUp (n : ℕ) (body up : List ℕ) (r : ℕ) (up' : List ℕ) : Type 0 where

@@ -1,11 +1,11 @@
--- The loop of `counting::count`: the turn is ahead of the tally at the first byte.
+-- The loop of `counting::count`: what is left is ahead of the bytes at the start.
 -- Assumes nothing.
-use Rattle.std.proofs.Common.{◌-◌, length}
+use Rattle.std.proofs.Common.{length}
 use Rattle.counting.specs.Promises.{Ahead}
 use Rattle.counting.proofs.count.Given as goal
 
-abbrev pub invariant-loop-t : goal.invariant-loop-t
-invariant-loop-t l = Ahead l.bytes l.initial.t.tally l.initial.t.at l.t.tally l.t.at
+abbrev pub invariant-loop-b : goal.invariant-loop-b
+invariant-loop-b l = Ahead l.initial.tally l.initial.rest l.tally l.rest
 
-abbrev pub decreases-loop-t : goal.decreases-loop-t
-decreases-loop-t l = length l.bytes - l.t.at
+abbrev pub decreases-loop-b : goal.decreases-loop-b
+decreases-loop-b l = length l.rest

@@ -1,14 +1,11 @@
 -- The loop of `frame::builder::lay_folding`: `dst` is what it was with src's first j bytes pasted in from `at`, and folding what is left of
 -- src into `sum` gives the whole fold.
 -- Assumes nothing.
-use Rattle.std.proofs.Common.{◌≡◌, ◌-◌, ◌≤◌, length, drop}
+use Rattle.std.proofs.Common.{◌≡◌, drop}
 use Rattle.std.proofs.Math.Seq.{paste}
 use Rattle.frame.specs.Bytes.{fold}
 use Rattle.frame.proofs.builder.lay_folding.Given as goal
 
 abbrev pub invariant-loop-j : goal.invariant-loop-j
 invariant-loop-j l =
-    (l.j ≤ length l.src) × (l.dst ≡ paste l.initial.dst l.at l.src l.j) × (fold l.acc l.src ≡ fold l.sum (drop l.j l.src))
-
-abbrev pub decreases-loop-j : goal.decreases-loop-j
-decreases-loop-j l = length l.src - l.j
+    (l.dst ≡ paste l.initial.dst l.at l.src l.j) × (fold l.acc l.src ≡ fold l.sum (drop l.j l.src))

@@ -1,11 +1,8 @@
--- The loop of `frame::bytes::fold`: folding what is left into `a` gives the whole fold.
+-- The loop of `frame::bytes::fold`: folding what is left of s into `sum` gives the whole fold.
 -- Assumes nothing.
-use Rattle.std.proofs.Common.{◌≡◌, ◌-◌, ◌≤◌, length, drop}
+use Rattle.std.proofs.Common.{◌≡◌, drop}
 use Rattle.frame.specs.Bytes.{fold}
 use Rattle.frame.proofs.bytes.fold.Given as goal
 
-abbrev pub invariant-loop-i : goal.invariant-loop-i
-invariant-loop-i l = (l.i ≤ length l.s) × (fold l.acc l.s ≡ fold l.a (drop l.i l.s))
-
-abbrev pub decreases-loop-i : goal.decreases-loop-i
-decreases-loop-i l = length l.s - l.i
+abbrev pub invariant-loop-byte : goal.invariant-loop-byte
+invariant-loop-byte l = fold l.acc l.s ≡ fold l.sum (drop l.byte-index l.s)

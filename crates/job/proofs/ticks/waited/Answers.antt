@@ -6,10 +6,10 @@ use Rattle.rules.specs.Rules.{ack_wait}
 use Rattle.rules.proofs.Theorems.{wire_at_most_23}
 use Rattle.job.proofs.ticks.waited.Goals as goal
 
-pub overflow_add-elapsed-then-waits : goal.overflow_add-elapsed-then-waits
-overflow_add-elapsed-then-waits c =
+pub overflow_add-waiting : goal.overflow_add-waiting
+overflow_add-waiting c =
     omega (
       arith,
-      ltb-true (c.args.elapsed + 1) (ack_wait c.args.size) (sym c.still_waits-waits.ensures ∙ c.if-waits.true),
+      ltb-true (c.args.elapsed + 1) (ack_wait c.args.size) (sym c.still_waits.ensures ∙ c.if-still_waits.true),
       wire_at_most_23 c.args.size,
     )

@@ -5,4 +5,4 @@ use Rattle.job.proofs.wire.wire_time.Goals as goal
 
 pub returns : goal.returns
 unfolding times runs
-returns c = time_of c.place_of-place.result c.args.size c.place_of-place.ensures
+returns c = time_of c.place_of.result c.args.size c.place_of.ensures

@@ -7,13 +7,13 @@ use Rattle.orders.proofs.lent.fill.Goals as goal
 
 pub loop-i-init : goal.loop-i-init
 unfolding pattern
-loop-i-init c = (omega arith, refl)
+loop-i-init c = refl
 
 pub loop-i-preserved : goal.loop-i-preserved
 loop-i-preserved c =
     let l = c.loop-i in
     let more = fill_more l.i c.args.lent.now (omega arith) in
-    (omega arith, simp (l.invariant.1, c.mark.ensures) more)
+    simp (l.invariant, c.mark.ensures) more
 
 pub returns : goal.returns
-returns c = c.loop-i.invariant.1 ∙ fill_end c.loop-i.i c.args.lent.now (omega arith)
+returns c = c.loop-i.invariant ∙ fill_end c.loop-i.i c.args.lent.now (omega arith)

@@ -10,5 +10,5 @@ use Rattle.run.proofs.run.head_on.Goals as goal
 pub returns : goal.returns
 returns c =
     let a = c.args in
-    let x = c.gone.ensures ∙ ap (λ (h : Heard). gone h (a.r.taken + 1)) c.measured-heard.ensures in
+    let x = c.gone.ensures ∙ ap (λ (h : Heard). gone h (a.r.taken + 1)) c.measured.ensures in
     (ap (λ (q : Reach). q.taken) x, headed_one a.bytes.now a.r a.clock c.requires.0 c.requires.1 x)

@@ -7,7 +7,7 @@ use Rattle.run.proofs.Turns.{on_over}
 use Rattle.run.proofs.run.hear_run.Goals as goal
 
 pub returns-after-loop-reach : goal.returns-after-loop-reach
-returns-after-loop-reach c z =
+returns-after-loop-reach c =
     let l = c.loop-reach in
     let bs = c.args.bytes.now in
-    record { all = sym (l.invariant.3 z ∙ on_over (far l.reach l.body) bs (λ q. le_antisymm l.invariant.0 c.loop-reach-test.false)) }
+    record { all = sym (l.invariant.2 ∙ on_over (far l.reach l.body) bs (λ q. le_antisymm l.invariant.0 c.loop-reach-test.false)) }

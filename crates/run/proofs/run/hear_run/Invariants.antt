@@ -8,8 +8,7 @@ abbrev pub invariant-loop-reach : goal.invariant-loop-reach
 invariant-loop-reach l =
     (l.reach.taken ≤ length l.bytes)
     × (has_news l.reach.event ≡ false)
-    × (length l.body ≡ length l.initial.body)
-    × (length l.initial.body ≡ 254 → on_from (far l.initial.reach l.initial.body) l.bytes ≡ on_from (far l.reach l.body) l.bytes)
+    × (on_from (far l.initial.reach l.initial.body) l.bytes ≡ on_from (far l.reach l.body) l.bytes)
 
 abbrev pub decreases-loop-reach : goal.decreases-loop-reach
 decreases-loop-reach l = length l.bytes - l.reach.taken

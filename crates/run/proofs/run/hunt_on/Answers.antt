@@ -13,7 +13,7 @@ returns-then-i-bytes-2 c =
     let a = c.args in
     let n = c.noise-i in
     let there : n.result + 1 < length a.bytes.now = c.if-i-bytes-2.true in
-    let x = c.gone.ensures ∙ ap (λ (h : Heard). gone h (n.result + 2)) c.measured-heard.ensures in
+    let x = c.gone.ensures ∙ ap (λ (h : Heard). gone h (n.result + 2)) c.measured.ensures in
     let t = ap (λ (q : Reach). q.taken) x in
     (omega (arith, t, n.ensures.from), omega (arith, t, there), λ body. hunts_head a.bytes.now a.r c.requires.0 c.requires.1 n.result n.ensures body there c.if-b-eq-START.true x)
 
@@ -23,7 +23,7 @@ returns-then-i-bytes c =
     let a = c.args in
     let n = c.noise-i in
     let there : n.result < length a.bytes.now = c.if-i-bytes.true in
-    let x = c.gone-then-i-bytes.ensures ∙ ap (λ (h : Heard). gone h (n.result + 1)) c.hunted-heard.ensures in
+    let x = c.gone-then-i-bytes.ensures ∙ ap (λ (h : Heard). gone h (n.result + 1)) c.hunted.ensures in
     let t = ap (λ (q : Reach). q.taken) x in
     (omega (arith, t, n.ensures.from), omega (arith, t, there), λ body. hunts_one a.bytes.now a.r c.requires.0 c.requires.1 n.result n.ensures body there x)
 

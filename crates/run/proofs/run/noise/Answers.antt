@@ -8,4 +8,4 @@ pub loop-i-preserved : goal.loop-i-preserved
 loop-i-preserved c =
     let l = c.loop-i in
     let a = c.args in
-    (omega arith, omega arith, λ e body. l.invariant.2 e body ∙ noise_more a.bytes.now e a.from l.i body l.invariant.0 c.loop-i-test.true (sym c.is_sign.ensures ∙ c.if-is_sign.false))
+    λ e body. l.invariant e body ∙ noise_more a.bytes.now e a.from l.i body (omega arith) (omega arith) (sym c.is_sign.ensures ∙ c.if-is_sign.false)

@@ -8,4 +8,4 @@ pub returns : goal.returns
 returns c =
     let a = c.args in
     let w = c.walk-sum.ensures in
-    (simp (c.picked-kind.ensures, c.picked-command.ensures, w.0) (sym (walked_is a.p a.s.now)), w.1, w.2)
+    (simp (c.picked-kind.ensures, c.picked-command.ensures, w.0) (sym (walked_is a.p a.s.now)), w.1)

@@ -5,4 +5,4 @@ use Rattle.link.proofs.link.Link.open_as.Goals as goal
 
 pub returns : goal.returns
 unfolding no_body no_frame
-returns c = simp c.fresh-core.ensures
+returns c = simp c.fresh.ensures
