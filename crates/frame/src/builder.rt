@@ -39,7 +39,7 @@ fn write(kind: u8, command: u8, parameters: &[u8], lent: &mut [u8])
 }
 
 // Builds the frame of these parts in the lent bytes, and answers its length: it stands in the first of them. Bytes beyond it stay; a
-// refusal leaves all of them. Type is any byte, no enum: 02 to FF are asked for too, and are KIND (`Build`).
+// refusal leaves all of them. Type is any byte, no enum: 02 to FF are asked for too, and are KIND (`Build`). They stay three, since `frame_of` is of three.
 // The caller lends the room, so a length and no slice is answered.
 // `send_checks` of `step` tests KIND and LONG too: a function for the two would be longer than the four lines that it saves.
 pub fn build(kind: u8, command: u8, parameters: &[u8], lent: &mut [u8]) -> Result<u16, Refusal>

@@ -85,7 +85,7 @@ impl End {
             LinkVerb::Bytes => self.call(asked, desk, |link, line, up| link.bytes(bytes, line, up)),
             LinkVerb::Restart => self.call(asked, desk, |link, line, up| link.restart(line, up)),
             LinkVerb::Tick | LinkVerb::Ticks => {
-                for _ in 0..asked.verb.times_of(order.number) {
+                for _ in 0..asked.verb.times_of(order.numbers.last) {
                     self.call(asked, desk, |link, line, up| link.tick(line, up))?;
                 }
                 Ok(None)

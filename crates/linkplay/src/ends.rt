@@ -5,7 +5,7 @@ use crate::told::Asked;
 use orders::Store;
 use rules::Role;
 use script::{Order, Verb};
-use std::io;
+use std::{io, mem};
 
 #[derive(Clone, Copy)]
 pub struct Ends {
@@ -48,7 +48,8 @@ impl Ends {
             }
             (_, Role::Module) => desk.out.put_all(b"error\n"),
             (Verb::Room, Role::Host) => {
-                desk.lent.set_rooms(order.room, order.number as usize);
+                desk.lent
+                    .set_rooms(order.numbers.room, order.numbers.last as usize);
                 Ok(())
             }
             (Verb::Pass, Role::Host) => self.pass(desk),
@@ -58,10 +59,8 @@ impl Ends {
 
     // Gives each end what the other had put out: first the host's bytes to the stand-in, then those of the stand-in.
     fn pass<P: Print>(&mut self, desk: &mut Desk<P>) -> io::Result<()> {
-        let asked = self.host.put_out;
-        let answered = self.module.put_out;
-        self.host.put_out = Store::empty();
-        self.module.put_out = Store::empty();
+        let asked = mem::replace(&mut self.host.put_out, Store::empty());
+        let answered = mem::replace(&mut self.module.put_out, Store::empty());
         if asked.pending.is_lost || answered.pending.is_lost {
             desk.out.put_all(b"pass lost\n")?;
         }

@@ -1,1 +1,3 @@
+pub mod Order
+pub mod Output
 pub mod Table

@@ -1,5 +1,8 @@
 // The calls on frames and on command bodies, each with its line of output.
-use crate::order::Order;
+ghost use Rattle.std.specs.Prelude.{OnOk};
+ghost use Rattle.script.specs.Output.{Ends};
+
+use crate::order::{Numbers, Order};
 use crate::output::Output;
 use crate::table::Call;
 use crate::word::MOST;
@@ -142,6 +145,7 @@ impl<'a, P: Print> Output<'a, P> {
     // The call of an order, in the lent buffer, with what it answered.
     fn put_call(&mut self, call: Call, order: &Order, lent: &mut [u8]) -> io::Result<usize> {
         let bytes = order.bytes;
+        let Numbers { before, last, .. } = order.numbers;
         let written = match call {
             Call::Read => {
                 return self.put_answer(read(bytes), |out, parts| out.put_parts(parts, bytes));
@@ -168,17 +172,19 @@ impl<'a, P: Print> Output<'a, P> {
                 write_capabilities(identity_of(bytes), behind(bytes, 8), lent)
             }
             Call::WriteNodes => write_nodes(controller_of(bytes), behind(bytes, 4), lent),
-            Call::Timeouts => set_timeouts(Millis(order.before), Millis(order.number), lent),
-            Call::WriteTimeouts => write_timeouts(Millis(order.before), Millis(order.number), lent),
+            Call::Timeouts => set_timeouts(Millis(before), Millis(last), lent),
+            Call::WriteTimeouts => write_timeouts(Millis(before), Millis(last), lent),
         };
         self.put_answer(written, |out, count| out.put_written(count, lent))
     }
 
     // An order that needs no link, with its line of output.
-    pub fn put_order(&mut self, call: Call, order: &Order) -> io::Result<()> {
+    pub fn put_order(&mut self, call: Call, order: &Order) -> io::Result<()>
+        ensures { OnOk result (Ends self.new.waiting 10) }
+    {
         let mut space = [0; MOST];
         fill(&mut space);
-        let n = within(order.room, &space);
+        let n = within(order.numbers.room, &space);
         let lent = &mut space[..n];
         write!(self, "{call}")?;
         let used = self.put_call(call, order, lent)?;

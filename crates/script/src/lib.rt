@@ -7,7 +7,7 @@ mod output;
 mod table;
 mod word;
 
-pub use order::{Malformed, Order, SPELT, order_of};
+pub use order::{Malformed, Numbers, Order, SPELT, order_of};
 pub use output::Output;
 pub use table::{Call, Verb};
 pub use word::{MOST, Word};

@@ -1,4 +1,7 @@
 // A line of a script becomes an order: its words are read one by one, as its verb's row in the table has them.
+ghost use Rattle.std.specs.Prelude.{◌≡◌, true, false, Ok, None, IfOk, IsSome};
+ghost use Rattle.script.specs.Order.{asks_nothing};
+
 use crate::table::{Row, Verb, row_of};
 use crate::word::Word;
 use orders::Store;
@@ -10,15 +13,21 @@ pub const SPELT: usize = 1366;
 #[derive(Clone, Copy, Debug, PartialEq, Eq)]
 pub struct Malformed;
 
+// What the words of a line say that are numbers.
+#[derive(Clone, Copy)]
+pub struct Numbers {
+    // The size of the buffer that the call is lent.
+    pub room: usize,
+    // The last number of the line, and the one before it.
+    pub last: u32,
+    pub before: u32,
+}
+
 // What a line asks for. (One shape for all verbs, and no case with data of its own for each: that would be a reader for each, where one goes through the words of every row.)
 #[derive(Clone, Copy)]
 pub struct Order<'a> {
     pub verb: Verb,
-    // The size of the buffer that the call is lent.
-    pub room: usize,
-    // The last number of the line, and the one before it.
-    pub number: u32,
-    pub before: u32,
+    pub numbers: Numbers,
     // The bytes that its words spell.
     pub bytes: &'a [u8],
 }
@@ -29,9 +38,7 @@ struct Reading<'a> {
     row: &'a Row,
     // The words that its row asks for and that have not come yet.
     missing: &'a [Word],
-    room: usize,
-    number: u32,
-    before: u32,
+    numbers: Numbers,
 }
 
 impl Reading<'_> {
@@ -48,10 +55,10 @@ impl Reading<'_> {
         let value = kind.read(word)?;
         match kind {
             Word::Byte => spelt.keep_whole(&[u8::try_from(value).ok()?], 1),
-            Word::Room => self.room = value as usize,
+            Word::Room => self.numbers.room = value as usize,
             Word::Size | Word::Number => {
-                self.before = self.number;
-                self.number = value;
+                self.numbers.before = self.numbers.last;
+                self.numbers.last = value;
             }
         }
         Some(())
@@ -62,7 +69,10 @@ impl Reading<'_> {
 pub fn order_of<'a>(
     line: &[u8],
     spelt: &'a mut Store<SPELT>,
-) -> Result<Option<Order<'a>>, Malformed> {
+) -> Result<Option<Order<'a>>, Malformed>
+    ensures nothing { asks_nothing line.now ≡ true → result ≡ Ok None }
+    ensures something { asks_nothing line.now ≡ false → IfOk result IsSome }
+{
     if line.is_empty() || line.starts_with(b"#") {
         return Ok(None);
     }
@@ -76,9 +86,11 @@ fn read<'a>(line: &[u8], spelt: &'a mut Store<SPELT>) -> Option<Order<'a>> {
     let mut reading = Reading {
         row,
         missing: row.words,
-        room: row.room,
-        number: 0,
-        before: 0,
+        numbers: Numbers {
+            room: row.room,
+            last: 0,
+            before: 0,
+        },
     };
     spelt.clear();
     for word in words {
@@ -89,9 +101,7 @@ fn read<'a>(line: &[u8], spelt: &'a mut Store<SPELT>) -> Option<Order<'a>> {
     }
     Some(Order {
         verb: row.verb,
-        room: reading.room,
-        number: reading.number,
-        before: reading.before,
+        numbers: reading.numbers,
         bytes: spelt.bytes(),
     })
 }

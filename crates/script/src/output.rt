@@ -1,7 +1,8 @@
 // The output: characters wait in one buffer, which is written when it is full and when the program asks for it. Who may write has the handle to print with.
 // The promises say what waits then where it has room; no contract can say what is written.
-ghost use Rattle.std.specs.Prelude.{◌≡◌, ◌+◌, ◌<◌, ◌≤◌, [], ◌∷◌, ◌++◌, length};
-ghost use Rattle.arrayvec.specs.ArrayVec.{array_vec_len};
+ghost use Rattle.std.specs.Prelude.{◌≡◌, [], ◌∷◌, OnOk};
+ghost use Rattle.refusals.specs.Refusals.{number_of};
+ghost use Rattle.script.specs.Output.{Ends, Puts, Waits, bytes_text, end_text, hex, refused_text};
 
 use arrayvec::ArrayVec;
 use refusals::Refusal;
@@ -41,7 +42,8 @@ impl<'a, P: Print> Output<'a, P> {
 
     // Puts a character behind what waits. A full buffer is written first.
     pub fn put(&mut self, c: u8) -> io::Result<()>
-        ensures { array_vec_len self.old.waiting < 65536 → self.new.waiting.items ≡ self.old.waiting.items ++ c ∷ [] }
+        ensures waits { Puts self.old.waiting (c ∷ []) result self.new.waiting }
+        ensures last { OnOk result (Ends self.new.waiting c) }
     {
         if self.waiting.is_full() {
             self.flush()?;
@@ -52,7 +54,7 @@ impl<'a, P: Print> Output<'a, P> {
 
     // The characters of a text.
     pub fn put_all(&mut self, text: &[u8]) -> io::Result<()>
-        ensures { array_vec_len self.old.waiting + length text.now ≤ 65536 → self.new.waiting.items ≡ self.old.waiting.items ++ text.now }
+        ensures { Puts self.old.waiting text.now result self.new.waiting }
     {
         if self.waiting.try_extend_from_slice(text).is_ok() {
             return Ok(());
@@ -64,12 +66,16 @@ impl<'a, P: Print> Output<'a, P> {
     }
 
     // A byte as two hexadecimal digits, in upper case. (By a table: with `{:02X}`, which was tried, 60,000 `build` lines of 200 bytes took 0.48 s in place of 0.25.)
-    pub(crate) fn put_byte(&mut self, b: u8) -> io::Result<()> {
+    pub(crate) fn put_byte(&mut self, b: u8) -> io::Result<()>
+        ensures { Puts self.old.waiting (hex b) result self.new.waiting }
+    {
         self.put_all(&[DIGITS[b as usize / 16], DIGITS[b as usize % 16]])
     }
 
     // Bytes as hexadecimal digits, `-` where there are none.
-    pub fn put_bytes(&mut self, bytes: &[u8]) -> io::Result<()> {
+    pub fn put_bytes(&mut self, bytes: &[u8]) -> io::Result<()>
+        ensures { Puts self.old.waiting (bytes_text bytes.now) result self.new.waiting }
+    {
         if bytes.is_empty() {
             return self.put(b'-');
         }
@@ -79,14 +85,19 @@ impl<'a, P: Print> Output<'a, P> {
         Ok(())
     }
 
-    // Why a call is refused.
-    pub fn put_refused(&mut self, refusal: Refusal) -> io::Result<()> {
+    // Why a call is refused. (That `write!` does not fail the kit does not say, so the promise is of its Ok.)
+    pub fn put_refused(&mut self, refusal: Refusal) -> io::Result<()>
+        ensures { OnOk result (Waits self.old.waiting (refused_text (number_of refusal)) self.new.waiting) }
+    {
         write!(self, " refused={}", u8::from(refusal))?;
         Ok(())
     }
 
     // The end of a line of output.
-    pub fn put_end(&mut self, is_spilled: bool) -> io::Result<()> {
+    pub fn put_end(&mut self, is_spilled: bool) -> io::Result<()>
+        ensures waits { Puts self.old.waiting (end_text is_spilled) result self.new.waiting }
+        ensures last { OnOk result (Ends self.new.waiting 10) }
+    {
         if is_spilled {
             self.put_all(b" SPILL")?;
         }
@@ -96,6 +107,8 @@ impl<'a, P: Print> Output<'a, P> {
 
 // So a line is put together by `write!`. (Not `io::Write`, which writes parts: what waits is written whole, or the play ends.)
 impl<'a, P: Print> fmt::Write for Output<'a, P> {
+    ghost write_str_gives = { λ before text after. Waits before.waiting text after.waiting };
+
     fn write_str(&mut self, text: &str) -> fmt::Result {
         self.put_all(text.as_bytes()).map_err(|_| fmt::Error)
     }

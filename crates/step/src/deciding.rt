@@ -14,7 +14,8 @@ use report::{Reception, Reset, Sending, Session};
 use rules::Choice;
 use sending::{awaited_by, on_event, on_restart};
 
-// What a call decides, before a lent byte is written; hearing and the held frame's length stand beside it.
+// What a call decides, before a lent byte is written; hearing and the held frame's length stand beside it. (The four that a report says stand
+// one by one here and there, as section 7 lists them: a struct of them would put a name more before each that theorems read: no plainer.)
 #[derive(Clone, Copy, Debug, PartialEq, Eq)]
 pub struct Outcome {
     pub job: Job,
