@@ -1,19 +1,19 @@
 -- What is put into the output, in characters. Document 01 says nothing of text, so these are our own definitions.
 -- Assumes nothing.
-use Rattle.std.specs.Prelude.{◌≡◌, ℕ, ◌+◌, ◌/◌, ◌%◌, ◌≤◌, ◌==◌, if◌then◌else◌, Bool, true, false, List, [], ◌∷◌, ◌++◌, length, slice_index, flat_map, codes, decimal, Result, IsOk}
+use Rattle.std.specs.Prelude.{◌≡◌, ℕ, ◌+◌, ◌/◌, ◌%◌, ◌≤◌, ◌==◌, if◌then◌else◌, Bool, true, false, List, [], ◌∷◌, ◌++◌, length, slice_index, flat_map, codes, decimal, Result, IsOk, OnOk}
 use Rattle.arrayvec.specs.ArrayVec.{ArrayVec, Extends, array_vec_len}
 
 -- a text has room behind what waits
 abbrev pub HasRoom : ArrayVec ℕ → List ℕ → Type 0
 HasRoom waiting text = array_vec_len waiting + length text ≤ 65536
 
--- where a text has room it stands behind what waited
-abbrev pub Waits : ArrayVec ℕ → List ℕ → ArrayVec ℕ → Type 0
-Waits before text after = HasRoom before text → Extends before text after
+-- a text was put: what was written and what waits now is what waited and the text. Nothing is lost, and nothing comes between
+abbrev pub Follows : ArrayVec ℕ → List ℕ → ArrayVec ℕ → Type 0
+Follows before text after = (written : List ℕ) × (written ++ after.items ≡ before.items ++ text)
 
--- the same, and the answer is Ok: nothing is written, so nothing fails
+-- so it is where the answer is Ok; where there is room that is so, and nothing is written
 abbrev pub Puts : {E : Type 0} → ArrayVec ℕ → List ℕ → Result (Unit {0}) E → ArrayVec ℕ → Type 0
-Puts before text result after = HasRoom before text → IsOk result × Extends before text after
+Puts before text result after = OnOk result (Follows before text after) × (HasRoom before text → IsOk result × Extends before text after)
 
 -- c is the last that waits
 abbrev pub Ends : ArrayVec ℕ → ℕ → Type 0

@@ -1,12 +1,12 @@
 // The output: characters wait in one buffer, which is written when it is full and when the program asks for it. Who may write has the handle to print with.
-// The promises say what waits then where it has room; no contract can say what is written.
-ghost use Rattle.std.specs.Prelude.{◌≡◌, [], ◌∷◌, OnOk};
+// The promises say what waits then: all that was put, but for a front of it that is written. That it is written no contract can say.
+ghost use Rattle.std.specs.Prelude.{◌≡◌, [], ◌∷◌, IsOk, OnOk};
 ghost use Rattle.refusals.specs.Refusals.{number_of};
-ghost use Rattle.script.specs.Output.{Ends, Puts, Waits, bytes_text, end_text, hex, refused_text};
+ghost use Rattle.script.specs.Output.{Ends, Follows, Puts, bytes_text, end_text, hex, refused_text};
 
 use arrayvec::ArrayVec;
+use itoa::Buffer;
 use refusals::Refusal;
-use std::fmt::Write;
 use std::{fmt, io};
 
 // So many bytes wait before they are written. They stand in the output itself: nothing is allocated.
@@ -85,12 +85,12 @@ impl<'a, P: Print> Output<'a, P> {
         Ok(())
     }
 
-    // Why a call is refused. (That `write!` does not fail the kit does not say, so the promise is of its Ok.)
+    // Why a call is refused. (Not by `write!`: that it does not fail where there is room the kit does not say.)
     pub fn put_refused(&mut self, refusal: Refusal) -> io::Result<()>
-        ensures { OnOk result (Waits self.old.waiting (refused_text (number_of refusal)) self.new.waiting) }
+        ensures { Puts self.old.waiting (refused_text (number_of refusal)) result self.new.waiting }
     {
-        write!(self, " refused={}", u8::from(refusal))?;
-        Ok(())
+        self.put_all(b" refused=")?;
+        self.put_all(Buffer::new().format(u8::from(refusal)).as_bytes())
     }
 
     // The end of a line of output.
@@ -107,9 +107,12 @@ impl<'a, P: Print> Output<'a, P> {
 
 // So a line is put together by `write!`. (Not `io::Write`, which writes parts: what waits is written whole, or the play ends.)
 impl<'a, P: Print> fmt::Write for Output<'a, P> {
-    ghost write_str_gives = { λ before text after. Waits before.waiting text after.waiting };
+    ghost write_str_gives = { λ before text after. Follows before.waiting text after.waiting };
 
-    fn write_str(&mut self, text: &str) -> fmt::Result {
+    fn write_str(&mut self, text: &str) -> fmt::Result
+        ensures ok { IsOk result → Follows self.old.waiting text.now self.new.waiting }
+        ensures puts { Puts self.old.waiting text.now result self.new.waiting }
+    {
         self.put_all(text.as_bytes()).map_err(|_| fmt::Error)
     }
 }

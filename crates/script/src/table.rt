@@ -1,5 +1,5 @@
 // The table of verbs: a row for each, with its name, what it asks for, the size of the buffer that its call is lent, and the words behind the name. Adding a verb is a row here, and an arm where its call is made: for the calls on frames and on bodies in calls.rt, for all others in crates/linkplay/src.
-ghost use Rattle.std.specs.Prelude.{Some};
+ghost use Rattle.std.specs.Prelude.{◌≡◌, Some, IfSome};
 ghost use Rattle.script.specs.Table.{call_name};
 
 use crate::word::Word;
@@ -259,6 +259,8 @@ static VERBS: [Row; 27] = [
 ];
 
 // The row of the verb with this name.
-pub(crate) fn row_of(name: &[u8]) -> Option<&'static Row> {
+pub(crate) fn row_of(name: &[u8]) -> Option<&'static Row>
+    ensures { IfSome result (λ row. row.now.name.now ≡ name.now) }
+{
     VERBS.iter().find(|row| row.name == name)
 }
