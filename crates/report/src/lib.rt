@@ -4,6 +4,7 @@
 // So it is of `Reset` too, though `either` of `step` is then `or` by hand: `report_told` takes the place of any of them by `as`.
 #![tactic(auto)]
 
+mod text;
 mod told;
 
 pub use told::report_told;
