@@ -65,33 +65,56 @@ impl End {
         Ok(told.ok().and_then(|told| told.taken))
     }
 
-    // The calls that an order asks for.
+    // So many calls, each with its line of output. A refusal ends none of them.
+    fn calls<P, T, F>(
+        &mut self,
+        asked: Asked,
+        times: u32,
+        desk: &mut Desk<P>,
+        step: F,
+    ) -> io::Result<()>
+    where
+        P: Print,
+        T: Into<Told>,
+        F: Copy + FnOnce(&mut Link, &mut [u8], &mut [u8]) -> Result<T, Refusal>,
+        requires { F.IsAlwaysCallable step }
+    {
+        for _ in 0..times {
+            self.call(asked, desk, step)?;
+        }
+        Ok(())
+    }
+
+    // The calls that an order asks for, so many as its verb makes of them.
     pub fn carry_out<P: Print>(
         &mut self,
         asked: Asked,
         order: &Order,
         desk: &mut Desk<P>,
     ) -> io::Result<()> {
+        let times = asked.verb.times_of(order.numbers.last);
         let bytes = order.bytes;
         let first = spelt_at(bytes, 0);
-        let last = match asked.verb {
-            LinkVerb::Send => self.call(asked, desk, |link, line, up| {
+        match asked.verb {
+            LinkVerb::Send => self.calls(asked, times, desk, |link, line, up| {
                 link.send(first, spelt_at(bytes, 1), behind(bytes, 2), line, up)
             }),
-            LinkVerb::Session => self.call(asked, desk, |link, line, up| {
+            LinkVerb::Session => self.calls(asked, times, desk, |link, line, up| {
                 link.session(first, behind(bytes, 1), line, up)
             }),
-            LinkVerb::Byte => self.call(asked, desk, |link, line, up| link.byte(first, line, up)),
-            LinkVerb::Bytes => self.call(asked, desk, |link, line, up| link.bytes(bytes, line, up)),
-            LinkVerb::Restart => self.call(asked, desk, |link, line, up| link.restart(line, up)),
-            LinkVerb::Tick | LinkVerb::Ticks => {
-                for _ in 0..asked.verb.times_of(order.numbers.last) {
-                    self.call(asked, desk, |link, line, up| link.tick(line, up))?;
-                }
-                Ok(None)
-            }
-        };
-        last.map(|_| ())
+            LinkVerb::Byte => self.calls(asked, times, desk, |link, line, up| {
+                link.byte(first, line, up)
+            }),
+            LinkVerb::Bytes => self.calls(asked, times, desk, |link, line, up| {
+                link.bytes(bytes, line, up)
+            }),
+            LinkVerb::Tick | LinkVerb::Ticks => self.calls(asked, times, desk, |link, line, up| {
+                link.tick(line, up)
+            }),
+            LinkVerb::Restart => self.calls(asked, times, desk, |link, line, up| {
+                link.restart(line, up)
+            }),
+        }
     }
 
     // Gives an end these bytes, as runs until all are taken or a run is refused, which drops those that are left. Each run takes at least one, so they are no more than the bytes: a `while` would have to ask each run whether it took one, and be no plainer.

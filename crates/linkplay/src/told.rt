@@ -6,8 +6,7 @@ use report::{Reception, Report, Reset, Sending, Session};
 use rules::Role;
 use script::Output;
 use std::fmt::Write;
-use std::{fmt, io};
-use units::Millis;
+use std::io;
 
 // What a line asks of an end.
 #[derive(Clone, Copy)]
@@ -59,75 +58,17 @@ impl Told {
     }
 }
 
-// A part of a report, as a line says it: its name, and the number that goes with it.
-#[derive(Drop)]
-struct Said<T>(T);
-
-impl fmt::Display for Said<Reception> {
-    fn fmt<W: fmt::Write>(&self, f: &mut fmt::Formatter<W>) -> fmt::Result {
-        f.write_str(match self.0 {
-            Reception::Nothing => "nothing",
-            Reception::Skipped => "skipped",
-            Reception::BadLength => "badlen",
-            Reception::Frame => "frame",
-            Reception::Reserved => "reserved",
-            Reception::BadSum => "badsum",
-            Reception::Abort => "abort",
-            Reception::StrayResponse => "strayresponse",
-            Reception::Cancelled => "cancelled",
-        })
-    }
-}
-
-impl fmt::Display for Said<Sending> {
-    fn fmt<W: fmt::Write>(&self, f: &mut fmt::Formatter<W>) -> fmt::Result {
-        match self.0 {
-            Sending::Nothing => write!(f, "nothing"),
-            Sending::Stray => write!(f, "stray"),
-            Sending::Due => write!(f, "due"),
-            Sending::Copy(n) => write!(f, "copy:{n}"),
-            Sending::BackingOff(Millis(n)) => write!(f, "backoff:{n}"),
-            Sending::Acknowledged(n) => write!(f, "acked:{n}"),
-            Sending::Failed(n) => write!(f, "failed:{n}"),
-            Sending::Abandoned => write!(f, "abandoned"),
-        }
-    }
-}
-
-impl fmt::Display for Said<Session> {
-    fn fmt<W: fmt::Write>(&self, f: &mut fmt::Formatter<W>) -> fmt::Result {
-        match self.0 {
-            Session::Nothing => write!(f, "nothing"),
-            Session::Waiting => write!(f, "waiting"),
-            Session::Response(n) => write!(f, "response:{n}"),
-            Session::NoResponse(n) => write!(f, "noresponse:{n}"),
-            Session::NotSent(n) => write!(f, "notsent:{n}"),
-            Session::Abandoned => write!(f, "abandoned"),
-        }
-    }
-}
-
-impl fmt::Display for Said<Reset> {
-    fn fmt<W: fmt::Write>(&self, f: &mut fmt::Formatter<W>) -> fmt::Result {
-        f.write_str(match self.0 {
-            Reset::Nothing => "none",
-            Reset::Sums => "sums",
-            Reset::Delivery => "delivery",
-        })
-    }
-}
-
-// A report that was made, with the bytes for the line and handed up.
+// A report that was made, each part by its text (`Display`, which `report` promises), with the bytes for the line and handed up.
 fn put_report<P: Print>(
     out: &mut Output<P>,
     report: Report,
     line: &[u8],
     up: &[u8],
 ) -> io::Result<()> {
-    write!(out, " rx={}", Said(report.reception))?;
-    write!(out, " tx={}", Said(report.sending))?;
-    write!(out, " session={}", Said(report.session))?;
-    write!(out, " reset={} line=", Said(report.reset))?;
+    write!(out, " rx={}", report.reception)?;
+    write!(out, " tx={}", report.sending)?;
+    write!(out, " session={}", report.session)?;
+    write!(out, " reset={} line=", report.reset)?;
     out.put_bytes(line)?;
     out.put_all(b" up=")?;
     out.put_bytes(up)
