@@ -4,7 +4,7 @@
 --     hunting_determined                                            whether it hunts
 --     keep_determined                                               the body of 254 bytes after a byte
 --     keep_length                                                   a byte kept leaves the body as long as it was
---     single_of_determined, single_back                             which single byte a byte is; each is read back from its byte
+--     single_of_determined, byte_of_determined, single_back         which single byte a byte is, and its byte; each is read back from its byte
 -- Assumes nothing.
 use mathlib.Core.Path.{◌≡◌, refl}
 use mathlib.Core.Bool.{Bool}
@@ -57,6 +57,9 @@ keep_length Aborted b body = refl
 
 pub single_of_determined : (b : ℕ) {r q : Option Single} → r ≡ single_of b → q ≡ single_of b → r ≡ q
 single_of_determined b x y = fixed x y
+
+pub byte_of_determined : (s : Single) {r q : ℕ} → r ≡ byte_of s → q ≡ byte_of s → r ≡ q
+byte_of_determined s x y = fixed x y
 
 -- A single byte that is put out is heard as the same.
 pub single_back : (s : Single) → single_of (byte_of s) ≡ Some s

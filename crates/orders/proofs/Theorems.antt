@@ -16,7 +16,7 @@ use Rattle.refusals.proofs.Theorems.{fixed}
 use Rattle.frame.specs.Promises.{fits}
 use Rattle.orders.specs.declared.ends.Pending.{Pending}
 use Rattle.orders.specs.declared.verb.LinkVerb.{LinkVerb}
-use Rattle.orders.specs.Verb.{is_tick, times_of}
+use Rattle.orders.specs.Verb.{is_tick, times_of, verb_name}
 use Rattle.orders.specs.Bytes.{spelt_at}
 use Rattle.orders.specs.Lent.{mark, pattern, differs, is_spilled}
 use Rattle.orders.specs.Ends.{CallAt, KeepWhole, none_pending}
@@ -30,6 +30,9 @@ is_tick_determined verb = fixed
 
 pub times_of_determined : (verb : LinkVerb) (n : ℕ) {r q : ℕ} → r ≡ times_of verb n → q ≡ times_of verb n → r ≡ q
 times_of_determined verb n = fixed
+
+pub verb_name_determined : (verb : LinkVerb) {r q : List ℕ} → r ≡ verb_name verb → q ≡ verb_name verb → r ≡ q
+verb_name_determined verb = fixed
 
 pub spelt_at_determined : (bytes : List ℕ) (at : ℕ) {r q : ℕ} → r ≡ spelt_at bytes at → q ≡ spelt_at bytes at → r ≡ q
 spelt_at_determined bytes at = fixed

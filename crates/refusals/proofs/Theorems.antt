@@ -1,6 +1,6 @@
 -- What holds of the refusals, and the one law of determinacy that every crate cites.
 --     fixed                a promise that is an equation fixes its answer
---     number_determined    `number_of`
+--     number_determined    `number_of`; name_determined: `name_of`
 --     numbers              each has the number that document 01 prints; number_place, number_injective: each has its own
 -- Assumes nothing.
 use mathlib.Core.Path.{◌≡◌, refl, sym, ap, ◌∙◌}
@@ -10,7 +10,7 @@ use lib.Dec.{eqb}
 use Rattle.refusals.specs.Pick.{pick}
 use Rattle.refusals.specs.declared.Refusal.{Refusal}
 use Rattle.refusals.specs.declared.Refusal.TheVariants.{Room, Busy, Kind, Long, Short, Start, Length, Tail, Sum, Form, Range}
-use Rattle.refusals.specs.Refusals.{number_of}
+use Rattle.refusals.specs.Refusals.{number_of, name_of}
 
 -- a promise that is an equation fixes its answer
 pub fixed : {A : Type 0} {r q x : A} → r ≡ x → q ≡ x → r ≡ q
@@ -18,6 +18,9 @@ fixed e f = e ∙ sym f
 
 pub number_determined : (k : Refusal) {r q : ℕ} → r ≡ number_of k → q ≡ number_of k → r ≡ q
 number_determined k = fixed
+
+pub name_determined : (k : Refusal) {r q : List ℕ} → r ≡ name_of k → q ≡ name_of k → r ≡ q
+name_determined k = fixed
 
 -- Section 3: each refusal beside its number. A number is not used again, not even that of a refusal that retires, so there may be gaps;
 -- and the order is that of the numbers.

@@ -1,10 +1,13 @@
 -- What holds of the definitions of this crate, over all inputs.
 -- Assumes nothing.
-use Rattle.std.proofs.Common.{◌≡◌, ℕ, ◌-◌, [], ◌∷◌, length, get_or, sym, ap, ◌∙◌, arith}
+use Rattle.std.proofs.Common.{◌≡◌, ℕ, ◌-◌, List, [], ◌∷◌, length, get_or, sym, ap, ◌∙◌, arith}
 use Rattle.std.proofs.lemmas.List.{length-append}
 use Rattle.std.proofs.Math.Seq.{get_or-append_seam}
 use Rattle.arrayvec.specs.ArrayVec.{ArrayVec, array_vec_len}
+use Rattle.refusals.proofs.Theorems.{fixed}
+use Rattle.script.specs.declared.table.Call.{Call}
 use Rattle.script.specs.Output.{Ends}
+use Rattle.script.specs.Table.{call_name}
 
 -- what is the last stands at the last place
 pub ends_at_last : (waiting : ArrayVec ℕ) (c : ℕ) → Ends waiting c → get_or waiting.items (array_vec_len waiting - 1) 0 ≡ c
@@ -15,3 +18,7 @@ ends_at_last waiting c e =
 -- so it is one character alone
 pub ends_determined : (waiting : ArrayVec ℕ) (c d : ℕ) → Ends waiting c → Ends waiting d → c ≡ d
 ends_determined waiting c d e f = sym (ends_at_last waiting c e) ∙ ends_at_last waiting d f
+
+-- the name that a call answers under is one text
+pub call_name_determined : (call : Call) {r q : List ℕ} → r ≡ call_name call → q ≡ call_name call → r ≡ q
+call_name_determined call = fixed
