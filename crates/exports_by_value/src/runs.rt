@@ -2,9 +2,6 @@
 // the parameters, since C has no `Option`, and each its own list of them.
 ghost use Rattle.std.specs.Prelude.{length};
 ghost use Rattle.step.specs.Checks.{checks, passes};
-ghost use Rattle.rules.specs.Rules.{rules_of};
-ghost use Rattle.link.specs.Out.{byte_out, tick_out, run_out};
-ghost use Rattle.link.specs.Calls.{CallPromise, RunPromise};
 ghost use Rattle.exports.specs.Feeding.{FedTo, opened, asked, heard_fed, bytes_fed, ticks_fed, runs_fed};
 
 use exports::Way;
@@ -12,39 +9,15 @@ use link::{Link, Run};
 use refusals::Refusal;
 use report::Report;
 
-// The link's own calls, to which a copy of the link goes in and from which it comes back.
+// The link's own calls, to which a copy of the link goes in and from which it comes back. (One copy each way: handed through a function of
+// its own that takes the link and gives it back, each call copied it three times more.)
 struct ByValue;
-
-fn byte(mut link: Link, b: u8, line: &mut [u8], up: &mut [u8]) -> (Link, Result<Report, Refusal>)
-    ensures { CallPromise passes (byte_out (rules_of link.core.choice) link b) link line.old up.old (record { link = result.0; answer = result.1 }) line.new up.new }
-{
-    let answer = link.byte(b, line, up);
-    (link, answer)
-}
-
-fn bytes(
-    mut link: Link,
-    bytes: &[u8],
-    line: &mut [u8],
-    up: &mut [u8],
-) -> (Link, Result<Run, Refusal>)
-    ensures { RunPromise (run_out (rules_of link.core.choice) link bytes.now) link line.old up.old (record { link = result.0; answer = result.1 }) line.new up.new }
-{
-    let answer = link.bytes(bytes, line, up);
-    (link, answer)
-}
-
-fn tick(mut link: Link, line: &mut [u8], up: &mut [u8]) -> (Link, Result<Report, Refusal>)
-    ensures { CallPromise passes (tick_out (rules_of link.core.choice) link) link line.old up.old (record { link = result.0; answer = result.1 }) line.new up.new }
-{
-    let answer = link.tick(line, up);
-    (link, answer)
-}
 
 impl Way for ByValue {
     fn byte(link: &mut Link, b: u8, line: &mut [u8], up: &mut [u8]) -> Result<Report, Refusal> {
-        let (after, answer) = byte(*link, b, line, up);
-        *link = after;
+        let mut copy = *link;
+        let answer = copy.byte(b, line, up);
+        *link = copy;
         answer
     }
 
@@ -54,14 +27,16 @@ impl Way for ByValue {
         line: &mut [u8],
         up: &mut [u8],
     ) -> Result<Run, Refusal> {
-        let (after, answer) = self::bytes(*link, bytes, line, up);
-        *link = after;
+        let mut copy = *link;
+        let answer = copy.bytes(bytes, line, up);
+        *link = copy;
         answer
     }
 
     fn tick(link: &mut Link, line: &mut [u8], up: &mut [u8]) -> Result<Report, Refusal> {
-        let (after, answer) = tick(*link, line, up);
-        *link = after;
+        let mut copy = *link;
+        let answer = copy.tick(line, up);
+        *link = copy;
         answer
     }
 }
