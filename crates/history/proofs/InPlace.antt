@@ -1,7 +1,7 @@
 -- A history of calls on a link's parts is one of the link's calls, so all that is proved of histories holds of it.
 --     plays_in_place        calls on the parts, one after the other, are calls of the link that the parts are
 --     plays_in_place_tied, plays_in_place_after   so they are what the history performs, from any parts, and from those of a fresh link
---     promised_apart        a call of `Link::from(parts)` is the call on these parts
+--     promised_apart        a call of the link that parts are is the call on these parts
 --     called_either_way, ran_either_way           a call of the link is the call on its parts put together, by the promises
 --     either_way            and by what is played
 -- Assumes nothing.
@@ -23,7 +23,7 @@ use Rattle.link.specs.declared.link.Link.{Link}
 use Rattle.history.specs.Perform.{What, Call, Done, perform}
 use Rattle.history.specs.History.{next, run, after}
 use Rattle.history.specs.Played.{by_call, by_run, Played, played, Promised, byte_call, bytes_call, tick_call, send_call, session_call, restart_call, Plays, no_calls, then, call_of, calls_of, line_of, up_of, told_of, AllTied}
-use Rattle.link.specs.declared.link.Parts.{Parts}
+use Rattle.link.specs.declared.parts.Parts.{Parts}
 use Rattle.history.specs.PlayedIn.{parts, fresh_parts, whole_of, PromisedIn, byte_in, bytes_in, tick_in, send_in, session_in, restart_in, PlaysIn, no_calls_in, then_in, SameAsked, SameTold}
 use Rattle.history.proofs.Promise.{promised, plays_tied, plays_after}
 use Rattle.step.specs.Checks.{Checked, checks, passes, send_own, session_own}
@@ -75,7 +75,7 @@ run_kept : (f : Link → List ℕ) {t : Taken} {l : Link} {line up : List ℕ} {
     → RunPromise t l line up r line' up' → f t.out.link ≡ f l → f r.link ≡ f l
 run_kept f {t} {l} {line} {up} c e = ap (λ (z : Ran). f z.link) c.answer ∙ ran_kept_by f (checks line up passes) t l e
 
--- A call of `Link::from(parts)` is the call on these parts, and leaves the parts of the link that it leaves.
+-- A call of the link that parts are, as those of `Parts` promise it, is the call on these parts, and leaves the parts of the link that it leaves.
 pub promised_apart : (R : Rules) (core : Core) (body frame : List ℕ) (p : Played) (m : Link) → Promised R (link_of core body frame) p m
     → PromisedIn R core body frame p (parts_of m)
 unfolding byte_out tick_out open_out

@@ -13,7 +13,7 @@ use Rattle.link.specs.Out.{run_out, byte_out, tick_out, open_out, restart_out}
 use Rattle.link.specs.Calls.{CallPromise, RunPromise}
 use Rattle.link.specs.InPlace.{AnsweredIn, RanIn, link_of, put_together, ran_put_together}
 use Rattle.link.specs.declared.link.Link.{Link}
-use Rattle.link.specs.declared.link.Parts.{Parts}
+use Rattle.link.specs.declared.parts.Parts.{Parts}
 use Rattle.history.specs.Perform.{byte, bytes, tick, send, session, restart}
 use Rattle.history.specs.Played.{by_call, by_run, Played, played}
 
@@ -25,7 +25,7 @@ parts core body frame = record { core = core; body = body; frame = frame }
 abbrev pub fresh_parts : Choice → Parts
 fresh_parts c = parts (fresh_core c) no_body no_frame
 
--- The link that they are: `Link::from(parts)`. So a caller that keeps the parts itself calls, and takes them back by `Parts::from(link)`.
+-- The link that they are, on which the calls of `Parts` promise what they do (`of_parts` of `link`).
 abbrev pub whole_of : Parts → Link
 whole_of k = link_of k.core k.body k.frame
 

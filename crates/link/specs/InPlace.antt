@@ -5,12 +5,17 @@ use Rattle.refusals.specs.declared.Refusal.{Refusal}
 use Rattle.report.specs.declared.Report.{Report}
 use Rattle.step.specs.declared.numbers.Core.{Core}
 use Rattle.link.specs.declared.link.Link.{Link}
+use Rattle.link.specs.declared.parts.Parts.{Parts}
 use Rattle.link.specs.declared.calls.Run.{Run}
 use Rattle.link.specs.Calls.{Answered, Ran}
 
 -- the link of these parts
 abbrev pub link_of : Core → List ℕ → List ℕ → Link
 link_of core body frame = record { core = core; body = body; frame = frame }
+
+-- and of the parts that a caller keeps, on which a call promises what it promises on it
+abbrev pub of_parts : Parts → Link
+of_parts p = link_of p.core p.body p.frame
 
 -- the numbers of the next link beside the answer; with a refusal, unchanged
 pub record AnsweredIn : Type 0 where

@@ -4,6 +4,8 @@
 mod calls;
 mod emit;
 mod link;
+mod parts;
 
 pub use calls::Run;
-pub use link::{Link, Parts, Timings};
+pub use link::{Link, Timings};
+pub use parts::Parts;

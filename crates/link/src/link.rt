@@ -2,7 +2,6 @@
 ghost use Rattle.std.specs.Prelude.{◌≡◌};
 ghost use Rattle.rules.specs.Rules.{usual};
 ghost use Rattle.link.specs.Link.{fresh_link, timings};
-ghost use Rattle.link.specs.InPlace.{link_of};
 
 use frame::{MAX_BODY, MAX_FRAME};
 use hearing::Hearing;
@@ -11,7 +10,7 @@ use rules::Choice;
 use step::Core;
 use units::Millis;
 
-// A link comes from opening, from an earlier call, or from parts that a caller keeps (`Parts`): no other crate can reach into one.
+// A link comes only from opening or an earlier call: no other crate can make one.
 #[derive(Clone, Copy)]
 pub struct Link {
     pub(crate) core: Core,
@@ -19,35 +18,6 @@ pub struct Link {
     // `over` are of these.)
     pub(crate) body: [u8; MAX_BODY],
     pub(crate) frame: [u8; MAX_FRAME],
-}
-
-// A link taken apart, for a caller that keeps its numbers and its two arrays itself. Any parts make a link, those too that no call
-// leaves: on such a link a call promises what it promises on any.
-#[derive(Clone, Copy)]
-pub struct Parts {
-    pub core: Core,
-    pub body: [u8; MAX_BODY],
-    pub frame: [u8; MAX_FRAME],
-}
-
-// The link of these parts.
-impl From<Parts> for Link {
-    ghost from_gives = { λ parts link. link ≡ link_of parts.core parts.body parts.frame };
-
-    fn from(parts: Parts) -> Link {
-        let Parts { core, body, frame } = parts;
-        Link { core, body, frame }
-    }
-}
-
-// And its parts.
-impl From<Link> for Parts {
-    ghost from_gives = { λ link parts. link ≡ link_of parts.core parts.body parts.frame };
-
-    fn from(link: Link) -> Parts {
-        let Link { core, body, frame } = link;
-        Parts { core, body, frame }
-    }
 }
 
 // The protocol's timings, together.

@@ -13,4 +13,4 @@ pub returns : goal.returns
 unfolding byte_out
 returns c =
     give passes _ _ _ _ c.room.ensures c.in_ok-room.was
-    (simp (c.keep.ensures, c.decide-outcome.ensures, c.hear_byte-hearing.ensures)) c.conclude.ensures
+    (simp (c.keep.ensures, c.decide-outcome.ensures, c.hear_byte-hearing.ensures)) (search) (search) refl refl c.conclude.ensures

@@ -1,0 +1,12 @@
+-- `link::parts::Parts::byte` meets its contract.
+-- Assumes nothing.
+use Rattle.std.proofs.Common.{refl, sym, ap, ◌∙◌}
+use Rattle.link.specs.declared.link.Link.{Link}
+use Rattle.link.specs.Out.{byte_out}
+use Rattle.link.proofs.Ways.{call_keeps}
+use Rattle.link.proofs.parts.Parts.byte.Goals as goal
+
+pub returns-clause-stays : goal.returns-clause-stays
+unfolding byte_out
+returns-clause-stays c =
+    ap (λ (z : Link). z.frame) (sym c.from.ensures) ∙ call_keeps (λ (z : Link). z.frame) c.byte-answer.ensures refl ∙ ap (λ (z : Link). z.frame) c.link-link.ensures
