@@ -9,7 +9,7 @@ use native.Mathlib.Omega.{arith}
 use borrow.Author.Tests.{lt-ltb, le-ltb, ne_eqb}
 use lib.Dec.{eqb, ltb}
 use lib.ListN.{length, take, drop, get_or, take-append-drop, length-drop}
-use lib.Seq.{drop-cons, length-take-le}
+use lib.Seq.{drop-cons, drop-drop, length-take-le}
 use Rattle.refusals.specs.Pick.{pick}
 use Rattle.frame.specs.Bytes.{fold}
 use Rattle.hearing.specs.Hearing.{heard, begun, more, ended}
@@ -24,7 +24,7 @@ use Rattle.tally.specs.declared.Counts.{Counts}
 use Rattle.tally.specs.declared.Tally.{Tally}
 use Rattle.tally.specs.Tally.{end_column, added, tallied, count_byte}
 use Rattle.counting.specs.Counting.{count}
-use Rattle.counting.specs.Promises.{hunting, apart, whole, Beyond}
+use Rattle.counting.specs.Promises.{hunting, apart, whole, Beyond, BeyondAt}
 use Rattle.counting.proofs.Laws.{count_more}
 
 abbrev headed : Counts → Tally
@@ -171,6 +171,36 @@ whole_on k rest behind size e h fits =
           subst P (sym e) (whole_bytes k size behind h) fits;
     }
 
+-- The same at a place.
+
+pub at_place : (bytes : List ℕ) (at b : ℕ) → at < length bytes → get_or bytes at 0 ≡ b → drop at bytes ≡ b ∷ drop (at + 1) bytes
+at_place bytes at b h e =
+    drop-cons bytes at 0 h
+    ∙ ap (λ (n : ℕ). get_or bytes at 0 ∷ drop n bytes) (sym (add-one at))
+    ∙ ap (λ (n : ℕ). n ∷ drop (at + 1) bytes) e
+
+module _ (k : Counts) (bytes : List ℕ) (at : ℕ) where
+  pub apart_at : (b : ℕ) → at < length bytes → get_or bytes at 0 ≡ b → (b ≡ 1 → ⊥)
+      → BeyondAt (hunting k) (drop at bytes) (hunting (added (apart b) k)) (at + 1) bytes
+  apart_at b h e n =
+      record {
+        within = omega arith;
+        beyond = apart_on k (drop at bytes) (drop (at + 1) bytes) b (at_place bytes at b h e) n;
+      }
+
+  -- At an 01: a stride over what is behind it.
+  pub stride_at : (l : Counts) (n : ℕ) (rest : List ℕ) → at < length bytes → get_or bytes at 0 ≡ 1 → rest ≡ drop (at + 1) bytes
+      → BeyondAt (hunting k) (1 ∷ rest) (hunting l) n rest → BeyondAt (hunting k) (drop at bytes) (hunting l) (at + 1 + n) bytes
+  stride_at l n rest h e r o =
+      let w = o.within in
+      record {
+        within = omega (arith, w, ap length r, length-drop (at + 1) bytes);
+        beyond = rw (at_place bytes at 1 h e, sym (drop-drop n (at + 1) bytes), sym r) o.beyond;
+      }
+
 -- The counts that a call left.
 pub counts_are : {t : Tally} {bytes rest : List ℕ} {k l : Counts} → l ≡ k → Beyond t bytes (hunting k) rest → Beyond t bytes (hunting l) rest
 counts_are {t} {bytes} {rest} e b = subst (λ (x : Counts). Beyond t bytes (hunting x) rest) (sym e) b
+
+pub counts_are_at : {t : Tally} {bytes rest : List ℕ} {next : ℕ} {k l : Counts} → l ≡ k → BeyondAt t rest (hunting k) next bytes → BeyondAt t rest (hunting l) next bytes
+counts_are_at {t} {bytes} {rest} {next} e o = subst (λ (x : Counts). BeyondAt t rest (hunting x) next bytes) (sym e) o

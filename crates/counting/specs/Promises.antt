@@ -1,6 +1,6 @@
 -- What the parts of `count` promise each other: several bytes at once are those bytes one by one. A reader need not believe it.
 -- Assumes nothing.
-use Rattle.std.specs.Prelude.{ℕ, ◌≤◌, ◌<◌, ◌≡◌, List, eqb, ltb, length}
+use Rattle.std.specs.Prelude.{ℕ, ◌≤◌, ◌<◌, ◌≡◌, List, eqb, ltb, length, drop}
 use Rattle.refusals.specs.Pick.{pick}
 use Rattle.hearing.specs.declared.hearing.Hearing.TheVariants.{Hunting}
 use Rattle.tally.specs.declared.Counts.{Counts}
@@ -28,3 +28,8 @@ pub record Ahead (t : Tally) (bytes : List ℕ) (u : Tally) (rest : List ℕ) : 
 pub record Beyond (t : Tally) (bytes : List ℕ) (u : Tally) (rest : List ℕ) : Type 0 where
   pub left : length rest < length bytes
   pub same : count t bytes ≡ count u rest
+
+-- The same at a place of the bytes.
+pub record BeyondAt (t : Tally) (rest : List ℕ) (u : Tally) (next : ℕ) (bytes : List ℕ) : Type 0 where
+  pub within : next ≤ length bytes
+  pub beyond : Beyond t rest u (drop next bytes)

@@ -1,10 +1,10 @@
 // Counting (document 01, section 9): what stands in raw bytes, many bytes at once where no frame is cut short.
 #![tactic(auto)]
 
-ghost use Rattle.std.specs.Prelude.{◌≡◌, ◌∷◌, MatchOption};
+ghost use Rattle.std.specs.Prelude.{◌≡◌, ◌∷◌, drop, MatchOption};
 ghost use Rattle.tally.specs.Tally.{added};
 ghost use Rattle.counting.specs.Counting.{count};
-ghost use Rattle.counting.specs.Promises.{Ahead, Beyond, hunting, apart, whole};
+ghost use Rattle.counting.specs.Promises.{Ahead, BeyondAt, hunting, apart, whole};
 
 use frame::{ACK, CAN, MIN_LENGTH, NAK, REQ, RES, SEED, START};
 use hearing::Hearing;
@@ -34,51 +34,52 @@ fn count_whole(counts: &mut Counts, kind: u8, sum: u8, check: u8)
     }
 }
 
-// Behind an 01: the whole frame in one stride, its body in one loop that keeps nothing, and what is left behind it. A frame that the
+// Behind an 01: the whole frame in one stride, its body in one loop that keeps nothing, and how many bytes it took. A frame that the
 // bytes cut short is left alone, and goes byte by byte: a slice has at most one at each end.
-fn stride<'a>(counts: &mut Counts, rest: &'a [u8]) -> Option<&'a [u8]>
-    ensures { MatchOption result (counts.new ≡ counts.old) (λ left. Beyond (hunting counts.old) (1 ∷ rest.now) (hunting counts.new) left.now) }
+fn stride(counts: &mut Counts, rest: &[u8]) -> Option<usize>
+    ensures { MatchOption result (counts.new ≡ counts.old) (λ n. BeyondAt (hunting counts.old) (1 ∷ rest.now) (hunting counts.new) n rest.now) }
 {
-    let (length, behind) = rest.split_first()?;
-    if *length < MIN_LENGTH {
+    let length = *rest.first()?;
+    if length < MIN_LENGTH {
         one_more(&mut counts.badlen);
-        return Some(behind);
+        return Some(1);
     }
-    let size = *length as usize;
+    let size = length as usize;
     if rest.len() <= size {
         return None;
     }
     let sum = frame::fold(SEED, &rest[..size]);
     count_whole(counts, rest[1], sum, rest[size]);
-    Some(&rest[size + 1..])
+    Some(size + 1)
 }
 
-// One byte while hunting, or one whole frame. 01 is not tested for first: LLVM would make one jump table of that test and those for
-// the three single bytes, and counting long frames would take a fifth longer.
-fn step<'a>(counts: &mut Counts, bytes: &'a [u8]) -> Option<&'a [u8]>
-    ensures { MatchOption result (counts.new ≡ counts.old) (λ rest. Beyond (hunting counts.old) bytes.now (hunting counts.new) rest.now) }
+// At a place: one byte while hunting, or one whole frame, and the place behind it. (A place, since it alone moves from byte to byte. By a slice
+// of what is left, whose start and length both move, bytes outside frames took 1.3 to 2.0 times as long.) 01 is not tested for first: LLVM would
+// make one jump table of that test and those for the three single bytes, and counting long frames would take a fifth longer.
+fn step(counts: &mut Counts, bytes: &[u8], at: usize) -> Option<usize>
+    ensures { MatchOption result (counts.new ≡ counts.old) (λ next. BeyondAt (hunting counts.old) (drop at bytes.now) (hunting counts.new) next bytes.now) }
 {
-    let (b, rest) = bytes.split_first()?;
-    if *b > START {
-        count_apart(counts, *b);
-        return Some(rest);
+    let b = bytes.get(at)?;
+    if *b <= START {
+        if *b == START {
+            return Some(at + 1 + stride(counts, &bytes[at + 1..])?);
+        }
+        one_more(&mut counts.skipped);
+        return Some(at + 1);
     }
-    if *b == START {
-        return stride(counts, rest);
-    }
-    one_more(&mut counts.skipped);
-    Some(rest)
+    count_apart(counts, *b);
+    Some(at + 1)
 }
 
 // The counts alone, in numbers, as far as no frame is cut short: the path that nearly every byte takes. What is left is answered.
 fn hunt<'a>(counts: &mut Counts, bytes: &'a [u8]) -> &'a [u8]
     ensures { Ahead (hunting counts.old) bytes.now (hunting counts.new) result.now }
 {
-    let mut rest = bytes;
-    while let Some(next) = step(counts, rest) {
-        rest = next;
+    let mut at = 0;
+    while let Some(next) = step(counts, bytes, at) {
+        at = next;
     }
-    rest
+    &bytes[at..]
 }
 
 // The same of a tally that hunts. Inside a frame all is left.
