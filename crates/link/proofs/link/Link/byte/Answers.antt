@@ -14,3 +14,9 @@ unfolding byte_out
 returns c =
     give passes _ _ _ _ c.room.ensures c.in_ok-room.was
     (simp (c.keep.ensures, c.decide-outcome.ensures, c.hear_byte-hearing.ensures)) (search) (search) refl refl c.conclude.ensures
+
+pub returns-then-not-outcome : goal.returns-then-not-outcome
+unfolding byte_out
+returns-then-not-outcome c =
+    accept passes _ _ _ c.args.up.now c.room.ensures c.in_ok-room.was
+    (simp (c.keep.ensures, c.decide-outcome.ensures, c.hear_byte-hearing.ensures)) c.emit.ensures
