@@ -5,7 +5,7 @@
 --     called_either_way, ran_either_way           a call of the link is the call on its parts put together, by the promises
 --     either_way            and by what is played
 -- Assumes nothing.
-use Rattle.std.specs.Prelude.{None, Some, Ok, Err, length}
+use Rattle.std.specs.Prelude.{None, Some, length}
 use mathlib.Core.Path.{◌≡◌, refl, sym, ap, subst, ◌∙◌}
 use mathlib.Core.List.{List}
 use Prim.Native.Nat.{ℕ}
@@ -15,9 +15,10 @@ use Rattle.rules.specs.declared.Choice.{Choice}
 use Rattle.step.specs.declared.numbers.Core.{Core}
 use Rattle.frame.specs.Frame.{frame_of, REQ}
 use Rattle.link.specs.Out.{Out, Taken, byte_out, tick_out, open_out, run_out}
-use Rattle.link.specs.Calls.{Answered, Ran, answered, ran, CallPromise, RunPromise}
+use Rattle.link.specs.Calls.{Answered, Ran, CallPromise, RunPromise}
 use Rattle.link.specs.InPlace.{AnsweredIn, RanIn, link_of, put_together, ran_put_together}
 use Rattle.link.proofs.Hears.{runs}
+use Rattle.link.proofs.Ways.{call_keeps, run_keeps}
 use Rattle.link.proofs.Theorems.{put_together_lem, run_put_together}
 use Rattle.link.specs.declared.link.Link.{Link}
 use Rattle.history.specs.Perform.{What, Call, Done, perform}
@@ -58,52 +59,35 @@ plays_in_place_after c n ps h = plays_after c (whole_of n) ps (plays_in_place (f
 abbrev pub parts_of : Link → Parts
 parts_of l = parts l.core l.body l.frame
 
--- what an accepted call leaves, a refused one leaves too
-kept_by : (f : Link → List ℕ) (k : Checked) (o : Out) (l : Link) → f o.link ≡ f l → f (answered k o l).link ≡ f l
-kept_by f (Ok _) o l e = e
-kept_by f (Err k) o l e = refl
-
-ran_kept_by : (f : Link → List ℕ) (k : Checked) (t : Taken) (l : Link) → f t.out.link ≡ f l → f (ran k t l).link ≡ f l
-ran_kept_by f (Ok _) t l e = e
-ran_kept_by f (Err k) t l e = refl
-
-call_kept : (f : Link → List ℕ) {own : Checked} {o : Out} {l : Link} {line up : List ℕ} {r : Answered} {line' up' : List ℕ}
-    → CallPromise own o l line up r line' up' → f o.link ≡ f l → f r.link ≡ f l
-call_kept f {own} {o} {l} {line} {up} c e = ap (λ (z : Answered). f z.link) c.answer ∙ kept_by f (checks line up own) o l e
-
-run_kept : (f : Link → List ℕ) {t : Taken} {l : Link} {line up : List ℕ} {r : Ran} {line' up' : List ℕ}
-    → RunPromise t l line up r line' up' → f t.out.link ≡ f l → f r.link ≡ f l
-run_kept f {t} {l} {line} {up} c e = ap (λ (z : Ran). f z.link) c.answer ∙ ran_kept_by f (checks line up passes) t l e
-
 -- A call of the link that parts are, as those of `Parts` promise it, is the call on these parts, and leaves the parts of the link that it leaves.
 pub promised_apart : (R : Rules) (core : Core) (body frame : List ℕ) (p : Played) (m : Link) → Promised R (link_of core body frame) p m
     → PromisedIn R core body frame p (parts_of m)
 unfolding byte_out tick_out open_out
 promised_apart R core body frame p m (byte_call b line up r line' up' c) =
-    let e : r.link.frame ≡ frame = call_kept (λ (z : Link). z.frame) c refl in
+    let e : r.link.frame ≡ frame = call_keeps (λ (z : Link). z.frame) c refl in
     subst (λ (f : List ℕ). PromisedIn R core body frame p (parts r.link.core r.link.body f)) (sym e)
     (byte_in b line up (record { core = r.link.core; answer = r.answer }) r.link.body line' up'
     (subst (λ (f : List ℕ). CallPromise passes (byte_out R (link_of core body frame) b) (link_of core body frame) line up (record { link = link_of r.link.core r.link.body f; answer = r.answer }) line' up') e c))
 promised_apart R core body frame p m (bytes_call bs line up r line' up' c) =
-    let e : r.link.frame ≡ frame = run_kept (λ (z : Link). z.frame) c (ap (λ (t : Taken). t.out.link.frame) (runs R (link_of core body frame) bs)) in
+    let e : r.link.frame ≡ frame = run_keeps (λ (z : Link). z.frame) c (ap (λ (t : Taken). t.out.link.frame) (runs R (link_of core body frame) bs)) in
     subst (λ (f : List ℕ). PromisedIn R core body frame p (parts r.link.core r.link.body f)) (sym e)
     (bytes_in bs line up (record { core = r.link.core; answer = r.answer }) r.link.body line' up'
     (subst (λ (f : List ℕ). RunPromise (run_out R (link_of core body frame) bs) (link_of core body frame) line up (record { link = link_of r.link.core r.link.body f; answer = r.answer }) line' up') e c))
 promised_apart R core body frame p m (tick_call line up r line' up' c) =
-    let a : r.link.body ≡ body = call_kept (λ (z : Link). z.body) c refl in
-    let e : r.link.frame ≡ frame = call_kept (λ (z : Link). z.frame) c refl in
+    let a : r.link.body ≡ body = call_keeps (λ (z : Link). z.body) c refl in
+    let e : r.link.frame ≡ frame = call_keeps (λ (z : Link). z.frame) c refl in
     subst (λ (f : List ℕ). PromisedIn R core body frame p (parts r.link.core r.link.body f)) (sym e)
     (subst (λ (b : List ℕ). PromisedIn R core body frame p (parts r.link.core b frame)) (sym a)
     (tick_in line up (record { core = r.link.core; answer = r.answer }) line' up'
     (subst (λ (b : List ℕ). CallPromise passes (tick_out R (link_of core body frame)) (link_of core body frame) line up (record { link = link_of r.link.core b frame; answer = r.answer }) line' up') a
     (subst (λ (f : List ℕ). CallPromise passes (tick_out R (link_of core body frame)) (link_of core body frame) line up (record { link = link_of r.link.core r.link.body f; answer = r.answer }) line' up') e c))))
 promised_apart R core body frame p m (send_call kind command ps line up r line' up' c) =
-    let a : r.link.body ≡ body = call_kept (λ (z : Link). z.body) c refl in
+    let a : r.link.body ≡ body = call_keeps (λ (z : Link). z.body) c refl in
     subst (λ (b : List ℕ). PromisedIn R core body frame p (parts r.link.core b r.link.frame)) (sym a)
     (send_in kind command ps line up (record { core = r.link.core; answer = r.answer }) r.link.frame line' up'
     (subst (λ (b : List ℕ). CallPromise (send_own core.job kind (length ps)) (open_out (link_of core body frame) None (frame_of kind command ps)) (link_of core body frame) line up (record { link = link_of r.link.core b r.link.frame; answer = r.answer }) line' up') a c))
 promised_apart R core body frame p m (session_call command ps line up r line' up' c) =
-    let a : r.link.body ≡ body = call_kept (λ (z : Link). z.body) c refl in
+    let a : r.link.body ≡ body = call_keeps (λ (z : Link). z.body) c refl in
     subst (λ (b : List ℕ). PromisedIn R core body frame p (parts r.link.core b r.link.frame)) (sym a)
     (session_in command ps line up (record { core = r.link.core; answer = r.answer }) r.link.frame line' up'
     (subst (λ (b : List ℕ). CallPromise (session_own core.job (length ps)) (open_out (link_of core body frame) (Some command) (frame_of REQ command ps)) (link_of core body frame) line up (record { link = link_of r.link.core b r.link.frame; answer = r.answer }) line' up') a c))

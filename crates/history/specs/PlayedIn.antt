@@ -11,7 +11,7 @@ use Rattle.step.specs.declared.numbers.Core.{Core}
 use Rattle.link.specs.Link.{no_body, no_frame}
 use Rattle.link.specs.Out.{run_out, byte_out, tick_out, open_out, restart_out}
 use Rattle.link.specs.Calls.{CallPromise, RunPromise}
-use Rattle.link.specs.InPlace.{AnsweredIn, RanIn, link_of, put_together, ran_put_together}
+use Rattle.link.specs.InPlace.{AnsweredIn, RanIn, link_of, of_parts, put_together, ran_put_together}
 use Rattle.link.specs.declared.link.Link.{Link}
 use Rattle.link.specs.declared.parts.Parts.{Parts}
 use Rattle.history.specs.Perform.{byte, bytes, tick, send, session, restart}
@@ -25,9 +25,9 @@ parts core body frame = record { core = core; body = body; frame = frame }
 abbrev pub fresh_parts : Choice → Parts
 fresh_parts c = parts (fresh_core c) no_body no_frame
 
--- The link that they are, on which the calls of `Parts` promise what they do (`of_parts` of `link`).
+-- the link that they are, on which the calls of `Parts` promise what they do
 abbrev pub whole_of : Parts → Link
-whole_of k = link_of k.core k.body k.frame
+whole_of k = of_parts k
 
 -- The promise of each call, made on the link of these parts: it is played so, and leaves those.
 pub data PromisedIn (R : Rules) (core : Core) (body frame : List ℕ) : Played → Parts → Type 0 where
